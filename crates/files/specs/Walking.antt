@@ -1,0 +1,41 @@
+-- What private functions say of the records of a file; no public contract cites this file. Assumes nothing.
+use mathlib.Core.Bool.{true}
+use mathlib.Core.List.{List, [], _∷_}
+use mathlib.Core.Path.{_≡_}
+use Prim.Native.Nat.{ℕ, zero, suc, _+_, _≤_}
+use lib.ListN.{length, drop}
+use Rattle.graphs.specs.declared.link.Link.{Link as GraphLink}
+use Rattle.kinds.specs.Payloads.{Shape, valid}
+use Rattle.files.specs.declared.check.Found.{Found}
+use Rattle.files.specs.declared.check.Found.the-variants.{Entry, Link}
+use Rattle.files.specs.declared.check.Record.{Record}
+use Rattle.files.specs.Encoding.{entryKind, linkKind}
+use Rattle.files.specs.Reading.{sizeOf, kindOf, payloadOf, linkOf}
+
+abbrev pub numberOf : Found → ℕ
+numberOf Entry = entryKind
+numberOf Link = linkKind
+
+-- the record at the front of some bytes, as its heading tells
+abbrev pub Told : Record → List ℕ → Type 0
+Told r bytes = (kindOf bytes ≡ numberOf (r .kind)) × (r .size ≡ sizeOf bytes)
+
+-- the payloads of the first n records
+abbrev pub payloadsIn : ℕ → List ℕ → List (List ℕ)
+payloadsIn zero bs = []
+payloadsIn (suc n) bs = payloadOf bs ∷ payloadsIn n (drop (4 + sizeOf bs) bs)
+
+-- what is left after them
+abbrev pub behind : ℕ → List ℕ → List ℕ
+behind zero bs = bs
+behind (suc n) bs = behind n (drop (4 + sizeOf bs) bs)
+
+-- they are there, and stand for values
+abbrev pub Lies : Shape → ℕ → List ℕ → Type 0
+Lies sh zero bs = Unit {0}
+Lies sh (suc n) bs = (4 + sizeOf bs ≤ length bs) × (valid sh (payloadOf bs) ≡ true) × Lies sh n (drop (4 + sizeOf bs) bs)
+
+-- the links of the first n records of seven bytes
+abbrev pub linksIn : ℕ → List ℕ → List GraphLink
+linksIn zero bs = []
+linksIn (suc n) bs = linkOf (drop 4 bs) ∷ linksIn n (drop 7 bs)

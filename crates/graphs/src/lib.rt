@@ -1,0 +1,2 @@
+// Graphs of entries and lettered links.
+pub mod link;

@@ -1,0 +1,5 @@
+pub mod Tables
+pub mod Ranging
+pub mod DayFacts
+pub mod Fronts
+pub mod NameFacts
