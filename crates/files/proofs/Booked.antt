@@ -14,8 +14,7 @@ use Rattle.refusals.specs.declared.Refusal.{Refusal}
 use Rattle.files.specs.declared.counts.Counts.{Counts}
 use Rattle.files.specs.Books.{roomOf, Held}
 use Rattle.files.specs.Encoding.{entryKind, framed, linksBytes, Raw, written, rawBook, encode, countsOf, Fits}
-use Rattle.files.specs.Reading.{Surveyed}
-use Rattle.files.specs.Walking.{payloadsIn, behind, Lies, linksIn}
+use Rattle.files.specs.Walking.{payloadsIn, behind, Lies, linksIn, Surveyed}
 use Rattle.files.proofs.Filling.{payloads-written, behind-written, lies-written, links-written, links-length}
 
 -- the room that the code measures

@@ -17,8 +17,8 @@ use Rattle.files.specs.Walking.{payloadsIn, behind, Lies, linksIn}
 use Rattle.files.proofs.Walk.{frame-size, frame-payload, frame-rest}
 
 -- a record's size and payload, as they are read from an offset on
-pub size-at : (bs : List ℕ) (at : ℕ) → word (getD bs at 0) (getD bs (at + 1) 0) ≡ sizeOf (drop at bs)
-size-at bs at = let z : at + 0 ≡ at = omega arith in sym (rw (getD-drop at bs 0 0, getD-drop at bs 1 0, z))
+pub size-at : (bs : List ℕ) (at n : ℕ) → n ≡ word (getD bs at 0) (getD bs (at + 1) 0) → n ≡ sizeOf (drop at bs)
+size-at bs at n e = let z : at + 0 ≡ at = omega arith in e ∙ sym (rw (getD-drop at bs 0 0, getD-drop at bs 1 0, z))
 
 pub payload-at : (bs : List ℕ) (at n : ℕ) → n ≡ sizeOf (drop at bs) → take (at + 4 + n - (at + 4)) (drop (at + 4) bs) ≡ payloadOf (drop at bs)
 payload-at bs at n e =

@@ -24,8 +24,8 @@ use Rattle.files.specs.declared.check.Found.the-variants.{Entry, Link as LinkR
 use Rattle.files.specs.declared.check.Record.{Record}
 use Rattle.files.specs.declared.counts.Counts.{Counts}
 use Rattle.files.specs.Encoding.{headKind, entryKind, linkKind, twoBytes, framed, linkBytes, Raw, written, countsOf, Fits}
-use Rattle.files.specs.Reading.{sizeOf, kindOf, payloadOf, linkOf, allowed, fit, rows, due, Refused, Surveyed}
-use Rattle.files.specs.Walking.{numberOf, Told}
+use Rattle.files.specs.Reading.{sizeOf, kindOf, payloadOf, linkOf, allowed, fit, rows, due, Refused}
+use Rattle.files.specs.Walking.{numberOf, Told, Surveyed}
 use Rattle.files.proofs.Passing.{Passed, passed}
 
 -- every element is a byte

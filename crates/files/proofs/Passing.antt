@@ -15,7 +15,7 @@ use Rattle.refusals.specs.Rows.{firstOf}
 use Rattle.refusals.specs.declared.Refusal.{Refusal}
 use Rattle.files.specs.declared.counts.Counts.{Counts}
 use Rattle.files.specs.Encoding.{headKind, entryKind, linkKind}
-use Rattle.files.specs.Reading.{sizeOf, kindOf, payloadOf, linkOf, allowed, fit, entriesIn, linksIn, rows}
+use Rattle.files.specs.Reading.{sizeOf, kindOf, payloadOf, linkOf, allowed, fit, entriesRead, linksRead, rows}
 
 past : (b : Bool) (x : Refusal) (o : Option Refusal) → cond b (Some x) o ≡ None → (b ≡ false) × (o ≡ None)
 past true x o e = let z : _≡_ {A = ℕ} 0 1 = cc in absurd (omega arith)
@@ -32,9 +32,9 @@ pub record Passed (sh : Shape) (room : Counts) (read : Option Counts) (left : Li
   pub whole : 4 + sizeOf left ≤ length left
   pub value-kind : (eqb (kindOf left) headKind && not (eqb (word (getD (payloadOf left) 0 0) (getD (payloadOf left) 1 0)) (sh .number))) ≡ false
   pub value : (eqb (kindOf left) entryKind && not (valid sh (payloadOf left))) ≡ false
-  pub joins : (eqb (kindOf left) linkKind && not (sound (entriesIn read) (linkOf (payloadOf left)))) ≡ false
-  pub entry-room : (eqb (kindOf left) entryKind && leb (room .entries) (entriesIn read)) ≡ false
-  pub link-room : (eqb (kindOf left) linkKind && leb (room .links) (linksIn read)) ≡ false
+  pub joins : (eqb (kindOf left) linkKind && not (sound (entriesRead read) (linkOf (payloadOf left)))) ≡ false
+  pub entry-room : (eqb (kindOf left) entryKind && leb (room .entries) (entriesRead read)) ≡ false
+  pub link-room : (eqb (kindOf left) linkKind && leb (room .links) (linksRead read)) ≡ false
 
 module _ (sh : Shape) (room : Counts) (read : Option Counts) (at : ℕ) (left : List ℕ) where
   pub passed : firstOf (rows sh room read at left) ≡ None → Passed sh room read left

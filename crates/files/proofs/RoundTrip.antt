@@ -23,7 +23,8 @@ use Rattle.refusals.specs.declared.Refusal.the-variants.{BytesTooShort}
 use Rattle.files.specs.declared.counts.Counts.{Counts}
 use Rattle.files.specs.Books.{roomOf, Decided, writable, writeRows, Put, SameFile, SameBook}
 use Rattle.files.specs.Encoding.{headKind, twoBytes, framed, entryBytes, linksBytes, Raw, written, rawBook, encode, mostEntries, mostLinks, countsOf, Fits}
-use Rattle.files.specs.Reading.{Refused, Surveyed}
+use Rattle.files.specs.Reading.{Refused}
+use Rattle.files.specs.Walking.{Surveyed}
 use Rattle.files.proofs.Filling.{links-length}
 use Rattle.files.proofs.Putting.{sound-all, length-putMid}
 use Rattle.files.proofs.Walk.{one-refusal, no-refusal, one-book}

@@ -19,7 +19,7 @@ use Rattle.refusals.specs.Rows.{firstOf}
 use Rattle.refusals.specs.declared.Refusal.{Refusal}
 use Rattle.files.specs.declared.counts.Counts.{Counts}
 use Rattle.files.specs.Encoding.{headKind, entryKind, linkKind, twoBytes, framed, linkBytes, Raw, written, countsOf, Fits}
-use Rattle.files.specs.Reading.{sizeOf, kindOf, payloadOf, linkOf, allowed, fit, entriesIn, linksIn, rows, bytesSoFar, due, Refused}
+use Rattle.files.specs.Reading.{sizeOf, kindOf, payloadOf, linkOf, allowed, fit, entriesRead, linksRead, rows, bytesSoFar, due, Refused}
 use Rattle.files.proofs.Growing.{empty}
 use Rattle.files.proofs.Passing.{Passed, passes}
 
@@ -51,9 +51,9 @@ module _ (sh : Shape) (room : Counts) where
     fits : fit sh k (length p) ≡ true
     value-kind : (eqb k headKind && not (eqb (word (getD p 0 0) (getD p 1 0)) (sh .number))) ≡ false
     value : (eqb k entryKind && not (valid sh p)) ≡ false
-    joins : (eqb k linkKind && not (sound (entriesIn read) (linkOf p))) ≡ false
-    entry-room : (eqb k entryKind && leb (room .entries) (entriesIn read)) ≡ false
-    link-room : (eqb k linkKind && leb (room .links) (linksIn read)) ≡ false
+    joins : (eqb k linkKind && not (sound (entriesRead read) (linkOf p))) ≡ false
+    entry-room : (eqb k entryKind && leb (room .entries) (entriesRead read)) ≡ false
+    link-room : (eqb k linkKind && leb (room .links) (linksRead read)) ≡ false
 
   good-passed : (read : Option Counts) (k : ℕ) (p t : List ℕ) → Good read k p → Passed sh room read (framed k p ++ t)
   good-passed read k p t good =
@@ -68,9 +68,9 @@ module _ (sh : Shape) (room : Counts) where
         whole = omega (arith, en, length-append p t);
         value-kind = both (λ j q. eqb j headKind && not (eqb (word (getD q 0 0) (getD q 1 0)) (sh .number))) _ _ _ _ ek ep ∙ good .value-kind;
         value = both (λ j q. eqb j entryKind && not (valid sh q)) _ _ _ _ ek ep ∙ good .value;
-        joins = both (λ j q. eqb j linkKind && not (sound (entriesIn read) (linkOf q))) _ _ _ _ ek ep ∙ good .joins;
-        entry-room = ap (λ j. eqb j entryKind && leb (room .entries) (entriesIn read)) ek ∙ good .entry-room;
-        link-room = ap (λ j. eqb j linkKind && leb (room .links) (linksIn read)) ek ∙ good .link-room;
+        joins = both (λ j q. eqb j linkKind && not (sound (entriesRead read) (linkOf q))) _ _ _ _ ek ep ∙ good .joins;
+        entry-room = ap (λ j. eqb j entryKind && leb (room .entries) (entriesRead read)) ek ∙ good .entry-room;
+        link-room = ap (λ j. eqb j linkKind && leb (room .links) (linksRead read)) ek ∙ good .link-room;
       }
 
   data End : Type 0 where

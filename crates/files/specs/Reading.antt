@@ -8,8 +8,6 @@ use lib.ListN.{length, getD, take, drop}
 use Rattle.std.specs.Options.{mapped, Cases}
 use Rattle.std.specs.declared.option.Option.{Option}
 use Rattle.std.specs.declared.option.Option.the-variants.{None, Some}
-use Rattle.std.specs.declared.result.Result.{Result}
-use Rattle.std.specs.declared.result.Result.the-variants.{Ok, Err}
 use Rattle.graphs.specs.Links.{sound}
 use Rattle.graphs.specs.declared.link.Link.{Link}
 use Rattle.kinds.specs.Payloads.{Shape, fitting, valid, word}
@@ -41,13 +39,14 @@ allowed (Some read) k = (eqb k entryKind && eqb (read .links) 0) || eqb k linkKi
 abbrev pub fit : Shape → ℕ → ℕ → Bool
 fit sh k n = cond (eqb k headKind) (eqb n 2) (cond (eqb k entryKind) (fitting sh n) (eqb n 3))
 
-abbrev pub entriesIn : Option Counts → ℕ
-entriesIn None = 0
-entriesIn (Some read) = read .entries
+-- how many entries and links were read
+abbrev pub entriesRead : Option Counts → ℕ
+entriesRead None = 0
+entriesRead (Some read) = read .entries
 
-abbrev pub linksIn : Option Counts → ℕ
-linksIn None = 0
-linksIn (Some read) = read .links
+abbrev pub linksRead : Option Counts → ℕ
+linksRead None = 0
+linksRead (Some read) = read .links
 
 -- the rows for the record that lies at an offset, at the front of what is left, where `read` counts what was read before (`None`: not even a head)
 abbrev pub rows : Shape → Counts → Option Counts → ℕ → List ℕ → List Row
@@ -58,9 +57,9 @@ rows sh room read at left =
     ∷ (ltb (length left) (4 + sizeOf left), PayloadCut at)
     ∷ (eqb (kindOf left) headKind && not (eqb (word (getD (payloadOf left) 0 0) (getD (payloadOf left) 1 0)) (sh .number)), OtherValueKind at)
     ∷ (eqb (kindOf left) entryKind && not (valid sh (payloadOf left)), NoSuchDay at)
-    ∷ (eqb (kindOf left) linkKind && not (sound (entriesIn read) (linkOf (payloadOf left))), LinkUnsound at)
-    ∷ (eqb (kindOf left) entryKind && leb (room .entries) (entriesIn read), TooManyEntries at)
-    ∷ (eqb (kindOf left) linkKind && leb (room .links) (linksIn read), TooManyLinks at)
+    ∷ (eqb (kindOf left) linkKind && not (sound (entriesRead read) (linkOf (payloadOf left))), LinkUnsound at)
+    ∷ (eqb (kindOf left) entryKind && leb (room .entries) (entriesRead read), TooManyEntries at)
+    ∷ (eqb (kindOf left) linkKind && leb (room .links) (linksRead read), TooManyLinks at)
     ∷ []
 
 -- the bytes of what was read: of nothing, or of a head, entries and links
@@ -82,8 +81,3 @@ pub record Refused (sh : Shape) (room : Counts) (bytes : List ℕ) (x : Refusal)
   pub fits : Cases before (Unit {0}) (Fits sh room)
   pub more : due before left ≡ true
   pub first : firstOf (rows sh room (mapped countsOf before) (length (bytesSoFar sh before)) left) ≡ Some x
-
--- a file is checked: it is the file of a book that fits, with these counts, or it is refused
-abbrev pub Surveyed : Shape → Counts → List ℕ → Result Counts Refusal → Type 0
-Surveyed sh room bytes (Ok counts) = (b : Raw) × (bytes ≡ written sh b) × Fits sh room b × (counts ≡ countsOf b)
-Surveyed sh room bytes (Err x) = Refused sh room bytes x

@@ -4,13 +4,17 @@ use mathlib.Core.List.{List, [], _∷_}
 use mathlib.Core.Path.{_≡_}
 use Prim.Native.Nat.{ℕ, zero, suc, _+_, _≤_}
 use lib.ListN.{length, drop}
+use Rattle.std.specs.declared.result.Result.{Result}
+use Rattle.std.specs.declared.result.Result.the-variants.{Ok, Err}
 use Rattle.graphs.specs.declared.link.Link.{Link as GraphLink}
 use Rattle.kinds.specs.Payloads.{Shape, valid}
 use Rattle.files.specs.declared.check.Found.{Found}
 use Rattle.files.specs.declared.check.Found.the-variants.{Entry, Link}
 use Rattle.files.specs.declared.check.Record.{Record}
-use Rattle.files.specs.Encoding.{entryKind, linkKind}
-use Rattle.files.specs.Reading.{sizeOf, kindOf, payloadOf, linkOf}
+use Rattle.refusals.specs.declared.Refusal.{Refusal}
+use Rattle.files.specs.declared.counts.Counts.{Counts}
+use Rattle.files.specs.Encoding.{entryKind, linkKind, Raw, written, countsOf, Fits}
+use Rattle.files.specs.Reading.{sizeOf, kindOf, payloadOf, linkOf, Refused}
 
 abbrev pub numberOf : Found → ℕ
 numberOf Entry = entryKind
@@ -39,3 +43,8 @@ Lies sh (suc n) bs = (4 + sizeOf bs ≤ length bs) × (valid sh (payloadOf bs) �
 abbrev pub linksIn : ℕ → List ℕ → List GraphLink
 linksIn zero bs = []
 linksIn (suc n) bs = linkOf (drop 4 bs) ∷ linksIn n (drop 7 bs)
+
+-- a file is checked: it is the file of a book that fits, with these counts, or it is refused
+abbrev pub Surveyed : Shape → Counts → List ℕ → Result Counts Refusal → Type 0
+Surveyed sh room bytes (Ok counts) = (b : Raw) × (bytes ≡ written sh b) × Fits sh room b × (counts ≡ countsOf b)
+Surveyed sh room bytes (Err x) = Refused sh room bytes x

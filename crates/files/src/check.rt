@@ -6,8 +6,8 @@ ghost use Rattle.std.specs.declared.option.Option.the-variants.{None, Some};
 ghost use Rattle.kinds.specs.Payloads.{Shape};
 ghost use Rattle.refusals.specs.Rows.{ByRows};
 ghost use Rattle.files.specs.Encoding.{entryKind, linkKind};
-ghost use Rattle.files.specs.Reading.{sizeOf, kindOf, rows, Surveyed};
-ghost use Rattle.files.specs.Walking.{Told};
+ghost use Rattle.files.specs.Reading.{sizeOf, kindOf, rows};
+ghost use Rattle.files.specs.Walking.{Told, Surveyed};
 use crate::counts::Counts;
 use crate::frame::ENTRY;
 use crate::frame::HEAD;
@@ -15,7 +15,7 @@ use crate::frame::HEAD_SIZE;
 use crate::frame::HEADING;
 use crate::frame::LINK;
 use crate::frame::LINK_SIZE;
-use crate::frame::pair;
+use crate::frame::two_bytes;
 use graphs::link::Link;
 use kinds::kind::Kind;
 use kinds::kind::Payload;
@@ -40,16 +40,16 @@ fn check_head<K: Kind>(bytes: &[u8]) -> Result<(), Refusal>
     if bytes.len() < HEADING {
         return Err(Refusal::HeadingCut { at: 0 });
     }
-    if pair(bytes[2], bytes[3]) != HEAD {
+    if two_bytes(bytes[2], bytes[3]) != HEAD {
         return Err(Refusal::RecordMisplaced { at: 0 });
     }
-    if pair(bytes[0], bytes[1]) as usize != HEAD_SIZE {
+    if two_bytes(bytes[0], bytes[1]) as usize != HEAD_SIZE {
         return Err(Refusal::LengthUnfit { at: 0 });
     }
     if bytes.len() < HEADING + HEAD_SIZE {
         return Err(Refusal::PayloadCut { at: 0 });
     }
-    if pair(bytes[4], bytes[5]) != K::file_number() {
+    if two_bytes(bytes[4], bytes[5]) != K::file_number() {
         return Err(Refusal::OtherValueKind { at: 0 });
     }
     Ok(())
@@ -129,8 +129,8 @@ fn check_record<K: Kind>(
     if left.len() < HEADING {
         return Err(Refusal::HeadingCut { at });
     }
-    let size = pair(left[0], left[1]) as usize;
-    let kind = pair(left[2], left[3]);
+    let size = two_bytes(left[0], left[1]) as usize;
+    let kind = two_bytes(left[2], left[3]);
     if kind == ENTRY && read.links == 0 {
         check_entry::<K>(left, size, at, read, room)?;
         Ok(Record {

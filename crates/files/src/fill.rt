@@ -6,7 +6,7 @@ ghost use lib.ListN.{length, drop};
 ghost use Rattle.files.specs.Walking.{payloadsIn, behind, Lies, linksIn};
 use crate::frame::HEADING;
 use crate::frame::LINK_SIZE;
-use crate::frame::pair;
+use crate::frame::two_bytes;
 use graphs::link::Link;
 use kinds::kind::Kind;
 use kinds::kind::Payload;
@@ -21,7 +21,7 @@ pub(crate) fn fill_entries<K: Kind>(left: &[u8], entries: &mut [K]) -> usize
 {
     let mut at = 0;
     for i in 0..entries.len() {
-        let size = pair(left[at], left[at + 1]) as usize;
+        let size = two_bytes(left[at], left[at + 1]) as usize;
         if let Some(value) = K::Payload::decode(&left[at + HEADING..at + HEADING + size]) {
             entries[i] = value;
         }

@@ -17,7 +17,7 @@ pub(crate) const HEAD_SIZE: usize = 2;
 // The payload of a link.
 pub(crate) const LINK_SIZE: usize = 3;
 
-pub(crate) fn pair(low: u8, high: u8) -> u16
+pub(crate) fn two_bytes(low: u8, high: u8) -> u16
     ensures { λ r. ⌜ r ≡ word low high ⌝ }
 {
     low as u16 + 256 * high as u16
