@@ -34,3 +34,5 @@ mod books;
 mod days;
 #[cfg(test)]
 mod rows;
+#[cfg(test)]
+mod sources;

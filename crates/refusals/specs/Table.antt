@@ -1,7 +1,7 @@
 -- The number and the place of each refusal. Assumes nothing.
 use Prim.Native.Nat.{ℕ}
 use Rattle.refusals.specs.declared.Refusal.{Refusal}
-use Rattle.refusals.specs.declared.Refusal.the-variants.{InputTooLong, HeadingCut, PayloadCut, RecordMisplaced, OtherValueKind, LengthUnfit, NoSuchDay, LinkUnsound, TooManyEntries, TooManyLinks, TextTooShort, BookUnwritable, BytesTooShort}
+use Rattle.refusals.specs.declared.Refusal.the-variants.{InputTooLong, HeadingCut, PayloadCut, RecordMisplaced, OtherValueKind, LengthUnfit, NoSuchDay, LinkUnsound, TooManyEntries, TooManyLinks, SheetOutOfRange, TextTooShort, BookUnwritable, BytesTooShort}
 
 abbrev pub number : Refusal → ℕ
 number InputTooLong = 10
@@ -14,6 +14,7 @@ number (NoSuchDay at) = 14
 number (LinkUnsound at) = 15
 number (TooManyEntries at) = 16
 number (TooManyLinks at) = 17
+number SheetOutOfRange = 18
 number TextTooShort = 47
 number BookUnwritable = 71
 number BytesTooShort = 72
@@ -30,6 +31,7 @@ place (NoSuchDay at) = at
 place (LinkUnsound at) = at
 place (TooManyEntries at) = at
 place (TooManyLinks at) = at
+place SheetOutOfRange = 0
 place TextTooShort = 0
 place BookUnwritable = 0
 place BytesTooShort = 0

@@ -16,6 +16,7 @@ pub enum Refusal {
     LinkUnsound { at: usize },
     TooManyEntries { at: usize },
     TooManyLinks { at: usize },
+    SheetOutOfRange,
     TextTooShort,
     BookUnwritable,
     BytesTooShort,
@@ -35,6 +36,7 @@ impl Refusal {
             Refusal::LinkUnsound { .. } => 15,
             Refusal::TooManyEntries { .. } => 16,
             Refusal::TooManyLinks { .. } => 17,
+            Refusal::SheetOutOfRange => 18,
             Refusal::TextTooShort => 47,
             Refusal::BookUnwritable => 71,
             Refusal::BytesTooShort => 72,
@@ -56,6 +58,7 @@ impl Refusal {
             | Refusal::TooManyEntries { at }
             | Refusal::TooManyLinks { at } => at,
             Refusal::InputTooLong
+            | Refusal::SheetOutOfRange
             | Refusal::TextTooShort
             | Refusal::BookUnwritable
             | Refusal::BytesTooShort => 0,
