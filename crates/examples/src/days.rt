@@ -22,6 +22,13 @@ fn sameness() -> Result<(), Fail> {
     check(!christmas.same(&day(Calendar::Gregorian, 2023, 12, 25)))
 }
 
+// Fields out of range stand for some day.
+#[test]
+fn any_fields() -> Result<(), Fail> {
+    check(day(Calendar::Gregorian, 1899, 0, 0).same(&day(Calendar::Gregorian, 2199, 12, 31)))?;
+    check(day(Calendar::Gregorian, 2200, 13, 32).same(&day(Calendar::Gregorian, 1900, 1, 1)))
+}
+
 #[test]
 fn existence() -> Result<(), Fail> {
     check(day(Calendar::Julian, 1900, 2, 29).exists())?;

@@ -8,12 +8,15 @@ use kinds::day::Day;
 const ALL_SOULS: &[u8] =
     b"\x02\x00\x01\x00\x01\x00\x09\x00\x02\x00All Souls\x09\x00\x02\x00All Souls\x08\x00\x02\x00All Soul\x09\x00\x02\x00All Souls\x03\x00\x03\x00\x00c\x01\x03\x00\x03\x00\x01c\x02\x03\x00\x03\x00\x02c\x03\x03\x00\x03\x00\x00p\x03";
 
-// Whether the program prints this line of this input.
+// Whether the program prints this line of this input, and accepts it just where that is a record.
 #[cfg(test)]
 fn prints(input: &[u8], line: &[u8]) -> bool {
     let mut out = [0; 128];
     match report_on(input, &mut out) {
-        Ok(Report { length, .. }) => &out[0..length] == line,
+        Ok(Report { length, accepted }) => {
+            let record = line.len() > 0 && line[0] == b'e';
+            &out[0..length] == line && accepted == record
+        }
         Err(_) => false,
     }
 }

@@ -14,6 +14,10 @@ use graphs::sheet::SheetSource;
 use graphs::source::Source;
 use kinds::calendar::Calendar;
 use kinds::day::DayKind;
+use kinds::kind::Payload;
+use kinds::name::NameInFile;
+use kinds::name::NameKind;
+use kinds::name::NamePayload;
 use refusals::Refusal;
 use refusals::RefusalDebug;
 use std::test::*;
@@ -111,6 +115,30 @@ fn piles_on_a_book() -> Result<(), Fail> {
     check_eq(pile.link_at(3), None)?;
     check(pile.same(0, 1))?;
     check(!pile.same(0, 2))
+}
+
+#[test]
+fn piles_on_names() -> Result<(), Fail> {
+    let names = [
+        NamePayload::decode(b"All Souls").ok_or("no name")?,
+        NamePayload::decode(b"All Soul").ok_or("no name")?,
+    ];
+    let links = [Link {
+        from: 0,
+        letter: b'c',
+        to: 1,
+    }];
+    let pile = Reversed {
+        below: Reversed {
+            below: Book {
+                values: &names,
+                links: &links,
+            },
+        },
+    };
+    check_eq(pile.link_at(0), link(0, b'c', 1))?;
+    check(pile.same(1, 1))?;
+    check(!pile.same(0, 1))
 }
 
 #[test]

@@ -23,7 +23,7 @@ use Rattle.files.specs.Reading.{Refused}
 abbrev pub roomOf : {V : Type 0} → List V → List Link → Counts
 roomOf values links = record { entries = min (length values) mostEntries; links = min (length links) mostLinks }
 
--- the answer to a file: every file of a book that fits is accepted, and every other is refused by the first row that applies
+-- the answer comes wherever it is due: the file of a book that fits is accepted, and a file that the rows refuse is refused so
 pub record Decided (sh : Shape) (room : Counts) (bytes : List ℕ) (r : Result Counts Refusal) : Type 0 where
   pub accepted : (b : Raw) → Fits sh room b → bytes ≡ written sh b → r ≡ Ok (countsOf b)
   pub refused : (x : Refusal) → Refused sh room bytes x → r ≡ Err x

@@ -65,7 +65,7 @@ mostLinks = 1024
 abbrev pub countsOf : Raw → Counts
 countsOf b = record { entries = length (b .payloads); links = length (b .links) }
 
--- a book that fits into the room for entries and for links: every payload stands for a value, and every link joins two entries
+-- a book that fits into the room for entries and for links: every payload stands for a value, and every link has a letter from a to z and joins two entries
 pub record Fits (sh : Shape) (room : Counts) (b : Raw) : Type 0 where
   pub entries : length (b .payloads) ≤ room .entries
   pub links : length (b .links) ≤ room .links

@@ -21,6 +21,7 @@ use kinds::kind::Kind;
 use kinds::kind::Payload;
 use refusals::Refusal;
 
+// What may stand behind the head.
 #[derive(Clone, Copy)]
 pub(crate) enum Found {
     Entry,
@@ -34,6 +35,7 @@ pub(crate) struct Record {
     pub(crate) size: usize,
 }
 
+// The rows for the first record, which must be the head.
 fn check_head<K: Kind>(bytes: &[u8]) -> Result<(), Refusal>
     ensures { λ r. ⌜ ((room : Counts) → ByRows (rows (Payload·Payload .shape) room None 0 (now (bytes .entry))) r (λ _. Unit {0})) ⌝ }
 {

@@ -22,6 +22,7 @@ pub(crate) fn fill_entries<K: Kind>(left: &[u8], entries: &mut [K]) -> usize
     let mut at = 0;
     for i in 0..entries.len() {
         let size = two_bytes(left[at], left[at + 1]) as usize;
+        // The file was checked, so there is one.
         if let Some(value) = K::Payload::decode(&left[at + HEADING..at + HEADING + size]) {
             entries[i] = value;
         }

@@ -40,6 +40,16 @@ abbrev pub entryOf : List SheetDay → SheetDay → Option ℕ
 entryOf [] day = None
 entryOf (x ∷ xs) day = cond (eqb (x .0) (day .0) && eqb (x .1) (day .1)) (Some 0) (mapped suc (entryOf xs day))
 
+-- the letters d, w and m
+abbrev pub dayLetter : ℕ
+dayLetter = 100
+
+abbrev pub weekLetter : ℕ
+weekLetter = 119
+
+abbrev pub monthLetter : ℕ
+monthLetter = 109
+
 abbrev pub linkTo : ℕ → ℕ → ℕ → Link
 linkTo from letter to = record { from = from; letter = letter; to = to }
 
@@ -50,9 +60,9 @@ later n i letter steps = cond (ltb (i + steps) n) (Some (linkTo i letter (i + st
 -- the three places of a day: `d` to the next day, `w` to seven days later, `m` to the same day of the next month
 abbrev pub placesOf : List SheetDay → ℕ → List (Option Link)
 placesOf days i =
-    later (length days) i 100 1
-    ∷ later (length days) i 119 7
-    ∷ mapped (linkTo i 109) (entryOf days (getD days i (0, 0) .0 + 1, getD days i (0, 0) .1))
+    later (length days) i dayLetter 1
+    ∷ later (length days) i weekLetter 7
+    ∷ mapped (linkTo i monthLetter) (entryOf days (getD days i (0, 0) .0 + 1, getD days i (0, 0) .1))
     ∷ []
 
 -- the entries are the days in order, and hold the days of the month; each has its three places

@@ -9,11 +9,16 @@ ghost use Rattle.refusals.specs.Rows.{ByRows};
 ghost use Rattle.refusals.specs.declared.Refusal.the-variants.{SheetOutOfRange};
 ghost use Rattle.graphs.specs.Graphs.{valueAt};
 ghost use Rattle.graphs.specs.SheetLaws.{sheet-lawful};
-ghost use Rattle.graphs.specs.Sheets.{sheetInRange, daysOf, sheetDays, entryOf, linkTo, later, sheetGraph};
+ghost use Rattle.graphs.specs.Sheets.{sheetInRange, daysOf, sheetDays, entryOf, monthLetter, linkTo, later, sheetGraph};
 use crate::link::Link;
 use crate::source::Source;
 use kinds::calendar::Calendar;
+use kinds::calendar::FIRST_YEAR;
+use kinds::calendar::LAST_YEAR;
 use refusals::Refusal;
+
+// A sheet has at most so many months.
+const MOST_MONTHS: u8 = 3;
 
 // One to three whole months of one year from 1900 to 2199. The entries are the days in order, and hold the days of the month.
 #[derive(Clone, Copy)]
@@ -29,11 +34,11 @@ impl Sheet {
     pub fn new(year: u16, month: u8, count: u8) -> Result<Sheet, Refusal>
         ensures { λ r. ⌜ ByRows ((not (sheetInRange year month count), SheetOutOfRange) ∷ []) r (λ s. (s .year ≡ year) × (s .month ≡ month) × (s .count ≡ count)) ⌝ }
     {
-        if year < 1900
-            || year > 2199
+        if year < FIRST_YEAR
+            || year > LAST_YEAR
             || month < 1
             || count < 1
-            || count > 3
+            || count > MOST_MONTHS
             || month as u16 + count as u16 > 13
         {
             return Err(Refusal::SheetOutOfRange);
@@ -41,6 +46,7 @@ impl Sheet {
         Ok(Sheet { year, month, count })
     }
 
+    // How many days a month of the year has.
     fn length_of(&self, month: u8) -> usize
         ensures is { λ r. ⌜ r ≡ daysOf (now (self .entry) .year) month ⌝ }
         ensures few { λ r. ⌜ r ≤ 255 ⌝ }
@@ -112,7 +118,7 @@ impl Sheet {
     // A link to the same day of the next month, where that day is on the sheet.
     fn next_month(&self, from: usize, month: u8, date: u8) -> Option<Link>
         requires { ⌜ month ≤ 12 ⌝ }
-        ensures { λ r. ⌜ r ≡ mapped (linkTo from 109) (entryOf (sheetDays (now (self .entry) .year) (now (self .entry) .month) (now (self .entry) .count)) (month + 1, date)) ⌝ }
+        ensures { λ r. ⌜ r ≡ mapped (linkTo from monthLetter) (entryOf (sheetDays (now (self .entry) .year) (now (self .entry) .month) (now (self .entry) .count)) (month + 1, date)) ⌝ }
     {
         match self.entry_of(month + 1, date) {
             Some(to) => Some(Link {

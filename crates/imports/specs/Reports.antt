@@ -20,10 +20,10 @@ answerLine (Ok i) = recordLine (i .entries) (i .links) (i .bytes)
 answerLine (Err x) = refusalLine x
 
 -- the line of the answer was made, or the buffer is too short for it and is as it was
-abbrev pub Told : Result Import Refusal → List ℕ → List ℕ → Result Report Refusal → Type 0
-Told answer line line′ (Ok p) = Laid (answerLine answer) line line′ (p .length) × (p .accepted ≡ isOk answer)
-Told answer line line′ (Err x) = (firstOf (lineRows (answerLine answer) (length line)) ≡ Some x) × (line′ ≡ line)
+abbrev pub Printed : Result Import Refusal → List ℕ → List ℕ → Result Report Refusal → Type 0
+Printed answer line line′ (Ok p) = Laid (answerLine answer) line line′ (p .length) × (p .accepted ≡ isOk answer)
+Printed answer line line′ (Err x) = (firstOf (lineRows (answerLine answer) (length line)) ≡ Some x) × (line′ ≡ line)
 
 -- the report of an input tells the answer of its import check
 abbrev pub Reported : List ℕ → List ℕ → List ℕ → Result Report Refusal → Type 0
-Reported input line line′ r = (answer : Result Import Refusal) × Imported input answer × Told answer line line′ r
+Reported input line line′ r = (answer : Result Import Refusal) × Imported input answer × Printed answer line line′ r

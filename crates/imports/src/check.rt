@@ -12,6 +12,7 @@ use files::read::read_book;
 use files::write::write_book;
 use graphs::link::Link;
 use kinds::calendar::Calendar;
+use kinds::calendar::FIRST_YEAR;
 use kinds::day::Day;
 use kinds::day::DayKind;
 use kinds::kind::Kind;
@@ -29,7 +30,7 @@ const ROOM_LINKS: usize = 256;
 // What the room for days and for names holds before a book is read.
 const NEW_YEAR: Day = Day {
     calendar: Calendar::Gregorian,
-    year: 1900,
+    year: FIRST_YEAR,
     month: 1,
     date: 1,
 };
@@ -63,6 +64,7 @@ fn check_book<K: Kind>(
         entries: n,
         links: m,
     } = read;
+    // What was read can be written, so this is never refused.
     let size = write_book(&entries[0..n], &links[0..m], again)?;
     Ok(Import {
         entries: n,

@@ -46,9 +46,11 @@ calendarOf b = cond (eqb b 0) Gregorian Julian
 abbrev pub dayBytes : Day → List ℕ
 dayBytes d = calendarByte (d .calendar) ∷ yearOf d % 256 ∷ yearOf d / 256 ∷ monthOf d ∷ dateOf d ∷ []
 
+-- the day that a payload is read as
 abbrev pub dayOf : List ℕ → Day
 dayOf p = record { calendar = calendarOf (getD p 0 0); year = word (getD p 1 0) (getD p 2 0); month = getD p 3 0; date = getD p 4 0 }
 
+-- a payload is a day's when its calendar is 0 or 1 and the day exists
 abbrev pub dayShape : Shape
 dayShape = record { number = 2; least = 5; most = 5; proper = λ p. leb (getD p 0 0) 1 && exists (calendarOf (getD p 0 0)) (word (getD p 1 0) (getD p 2 0)) (getD p 3 0) (getD p 4 0) }
 

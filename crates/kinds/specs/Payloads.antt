@@ -12,7 +12,7 @@ pub record Shape : Type 0 where
   pub most : ℕ
   pub proper : List ℕ → Bool
 
--- a number in two bytes, the low one first
+-- the number that two bytes stand for, the low one first
 abbrev pub word : ℕ → ℕ → ℕ
 word low high = low + 256 * high
 

@@ -3,15 +3,18 @@ ghost use mathlib.Core.Path.{_≡_};
 ghost use Prim.Native.Nat.{ℕ, _≤_};
 ghost use Rattle.kinds.specs.Calendars.{leap, monthLength, daysBefore};
 
+// A file tells the calendar by its number.
 #[derive(Clone, Copy, PartialEq, Eq, Debug)]
 pub enum Calendar {
-    Gregorian,
-    Julian,
+    Gregorian = 0,
+    Julian = 1,
 }
 
 pub const FIRST_YEAR: u16 = 1900;
 
 pub const LAST_YEAR: u16 = 2199;
+
+pub(crate) const YEARS: u16 = 300;
 
 impl Calendar {
     pub fn is_leap(self, year: u16) -> bool

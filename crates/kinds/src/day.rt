@@ -10,6 +10,7 @@ ghost use Rattle.kinds.specs.Sameness.{day-reflexive, day-symmetric, day-trans
 use crate::calendar::Calendar;
 use crate::calendar::FIRST_YEAR;
 use crate::calendar::LAST_YEAR;
+use crate::calendar::YEARS;
 use crate::kind::Kind;
 use crate::kind::Payload;
 use crate::payload::copy_front;
@@ -41,10 +42,11 @@ impl Day {
             && self.date <= self.calendar.month_length(self.year, self.month)
     }
 
+    // The year, the month and the day of the month that the fields stand for.
     fn in_year(&self) -> u16
         ensures { λ r. ⌜ r ≡ yearOf (now (self .entry)) ⌝ }
     {
-        FIRST_YEAR - 1 + kept_within(300, self.year.saturating_sub(FIRST_YEAR - 1))
+        FIRST_YEAR - 1 + kept_within(YEARS, self.year.saturating_sub(FIRST_YEAR - 1))
     }
 
     fn in_month(&self) -> u8

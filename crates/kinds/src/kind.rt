@@ -34,7 +34,7 @@ pub trait Payload<V> {
         ensures value { λ r. ⌜ r ≡ cond (valid shape (now (payload .entry))) (Some (decoded (now (payload .entry)))) None ⌝ }
         ensures back { λ r. ⌜ Cases r (Unit {0}) (λ x. encoded x ≡ now (payload .entry)) ⌝ };
 
-    // How many bytes the payload of a value has; a record tells it in two bytes.
+    // How many bytes the payload of a value has, which a record tells in two bytes. Whatever the fields hold, the payload is a valid one.
     fn size(value: &V) -> usize
         ensures small { λ r. ⌜ r < 65536 ⌝ }
         ensures is { λ r. ⌜ r ≡ length (encoded (now (value .entry))) ⌝ }
@@ -66,6 +66,7 @@ pub trait Kind: Copy {
     fn file_number() -> u16
         ensures { λ r. ⌜ r ≡ Payload·Payload .shape .number ⌝ };
 
+    // Whether the two are the same.
     fn same(&self, other: &Self) -> bool
         ensures { λ r. ⌜ r ≡ alike (now (self .entry)) (now (other .entry)) ⌝ };
 }

@@ -27,7 +27,7 @@ impl Name {
         ensures is { λ r. ⌜ now r ≡ text (now (self .entry)) ⌝ }
         ensures size { λ r. ⌜ length (now r) ≡ within 128 (now (self .entry) .len) ⌝ }
     {
-        let size = kept_within(128, self.len as u16) as usize;
+        let size = kept_within(MOST_BYTES as u16, self.len as u16) as usize;
         &self.bytes[0..size]
     }
 }

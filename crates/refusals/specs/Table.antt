@@ -3,6 +3,7 @@ use Prim.Native.Nat.{ℕ}
 use Rattle.refusals.specs.declared.Refusal.{Refusal}
 use Rattle.refusals.specs.declared.Refusal.the-variants.{InputTooLong, HeadingCut, PayloadCut, RecordMisplaced, OtherValueKind, LengthUnfit, NoSuchDay, LinkUnsound, TooManyEntries, TooManyLinks, SheetOutOfRange, TextTooShort, BookUnwritable, BytesTooShort}
 
+-- the number by which users know a refusal
 abbrev pub number : Refusal → ℕ
 number InputTooLong = 10
 number (HeadingCut at) = 11
