@@ -5,7 +5,7 @@ use mathlib.Core.Path.{_≡_, refl, sym, ap, subst, _∙_}
 use Prim.Native.Nat.{ℕ, suc, _+_, _-_, _*_, _<_, _≤_}
 use native.Mathlib.Omega.{arith}
 use lib.ListN.{length, getD, take, drop, set}
-use Rattle.std.proofs.shelf.Lists.{append-assoc, append-nil, length-append, length-drop, drop-drop, getD-drop, take-more-set, map-push, take-all}
+use Rattle.std.proofs.shelf.Lists.{append-assoc, append-nil, length-append, length-drop, drop-drop, getD-drop, getD-take, take-more-set, map-push, take-all}
 use Rattle.std.proofs.shelf.Tests.{cond-true}
 use Rattle.std.specs.declared.option.Option.the-variants.{None, Some}
 use Rattle.std.specs.shelf.Lists.{All, joined}
@@ -132,16 +132,15 @@ pub links-length : (ls : List Link) → length (linksBytes ls) ≡ 7 * length ls
 links-length [] = refl
 links-length (l ∷ ls) = omega (arith, links-length ls)
 
-abbrev linkAt : List ℕ → ℕ → Link
-linkAt left at = record { from = getD left (at + 4) 0; letter = getD left (at + 5) 0; to = getD left (at + 6) 0 }
+-- the link of a record, as it is read from an offset on
+abbrev linkFrom : List ℕ → ℕ → Link
+linkFrom left at = linkOf (take (at + 4 + 3 - (at + 4)) (drop (at + 4) left))
 
-link-at : (left : List ℕ) (at : ℕ) → linkAt left at ≡ linkOf (drop 4 (drop at left))
-link-at left at =
-    let d : drop 4 (drop at left) ≡ drop (at + 4) left = drop-drop 4 at left in
-    let a : getD (drop (at + 4) left) 0 0 ≡ getD left (at + 4) 0 = getD-drop (at + 4) left 0 0 ∙ ap (λ k. getD left k 0) (omega arith) in
-    let b : getD (drop (at + 4) left) 1 0 ≡ getD left (at + 5) 0 = getD-drop (at + 4) left 1 0 ∙ ap (λ k. getD left k 0) (omega arith) in
-    let c : getD (drop (at + 4) left) 2 0 ≡ getD left (at + 6) 0 = getD-drop (at + 4) left 2 0 ∙ ap (λ k. getD left k 0) (omega arith) in
-    sym (rw (d, a, b, c))
+link-from : (left : List ℕ) (at : ℕ) → linkFrom left at ≡ linkOf (drop 4 (drop at left))
+link-from left at =
+    let m : at + 4 + 3 - (at + 4) ≡ 3 = omega arith in
+    let xs = drop (at + 4) left in
+    rw (m, drop-drop 4 at left, getD-take 3 xs 0 0 (omega arith), getD-take 3 xs 1 0 (omega arith), getD-take 3 xs 2 0 (omega arith))
 
 -- the first i links are there
 abbrev pub Linking : ℕ → List ℕ → List Link → ℕ → Type 0
@@ -150,13 +149,13 @@ Linking n left ls i = take i ls ++ linksIn (n - i) (drop (7 * i) left) ≡ links
 pub linking-none : (n : ℕ) (left : List ℕ) (ls : List Link) → Linking n left ls 0
 linking-none n left ls = let z : n - 0 ≡ n = omega arith in rw z
 
-pub linking-more : (n : ℕ) (left : List ℕ) (ls : List Link) (i : ℕ) (l : Link) → i < n → length ls ≡ n → l ≡ linkAt left (7 * i) → Linking n left ls i → Linking n left (set ls i l) (i + 1)
+pub linking-more : (n : ℕ) (left : List ℕ) (ls : List Link) (i : ℕ) (l : Link) → i < n → length ls ≡ n → l ≡ linkFrom left (7 * i) → Linking n left ls i → Linking n left (set ls i l) (i + 1)
 linking-more n left ls i l h len e inv =
     let m : n - i ≡ suc (n - (i + 1)) = omega arith in
     let seven : drop (7 * (i + 1)) left ≡ drop 7 (drop (7 * i) left) = ap (λ k. drop k left) (omega arith) ∙ sym (drop-drop 7 (7 * i) left) in
     let was : take i ls ++ linksIn (suc (n - (i + 1))) (drop (7 * i) left) ≡ linksIn n left = rw m at inv in
     let within : i < length ls = omega arith in
-    rw (take-more-set ls i l within, seven, e, link-at left (7 * i)) (append-assoc (take i ls) _ _ ∙ was)
+    rw (take-more-set ls i l within, seven, e, link-from left (7 * i)) (append-assoc (take i ls) _ _ ∙ was)
 
 pub linking-all : (n : ℕ) (left : List ℕ) (ls : List Link) (i : ℕ) → n ≤ i → length ls ≡ n → Linking n left ls i → ls ≡ linksIn n left
 linking-all n left ls i h len inv =

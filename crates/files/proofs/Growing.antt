@@ -19,8 +19,8 @@ use Rattle.graphs.specs.declared.link.Link.{Link}
 use Rattle.kinds.specs.Payloads.{Shape, fitting, valid, word}
 use Rattle.refusals.specs.Rows.{firstOf}
 use Rattle.refusals.specs.declared.Refusal.{Refusal}
-use Rattle.files.specs.declared.check.Found.{Found}
-use Rattle.files.specs.declared.check.Found.the-variants.{Entry, Link as LinkRecord}
+use Rattle.files.specs.declared.check.RecordKind.{RecordKind}
+use Rattle.files.specs.declared.check.RecordKind.the-variants.{Entry, Link as LinkRecord}
 use Rattle.files.specs.declared.check.Record.{Record}
 use Rattle.files.specs.declared.counts.Counts.{Counts}
 use Rattle.files.specs.Encoding.{headKind, entryKind, linkKind, twoBytes, framed, linkBytes, Raw, written, countsOf, Fits}
@@ -83,16 +83,16 @@ abbrev pub empty : Raw
 empty = record { payloads = []; links = [] }
 
 -- the book with one record more
-abbrev pub grown : Found → Raw → List ℕ → Raw
+abbrev pub grown : RecordKind → Raw → List ℕ → Raw
 grown Entry b left = record { payloads = b .payloads ++ payloadOf left ∷ []; links = b .links }
 grown LinkRecord b left = record { payloads = b .payloads; links = b .links ++ linkOf (payloadOf left) ∷ [] }
 
 -- the counts with one record more
-abbrev pub counted : Found → Counts → Counts
+abbrev pub counted : RecordKind → Counts → Counts
 counted Entry read = record { entries = read .entries + 1; links = read .links }
 counted LinkRecord read = record { entries = read .entries; links = read .links + 1 }
 
-pub counted-as : (f k : Found) (read more : Counts) → f ≡ k → more ≡ counted k read → more ≡ counted f read
+pub counted-as : (f k : RecordKind) (read more : Counts) → f ≡ k → more ≡ counted k read → more ≡ counted f read
 counted-as f k read more e h = h ∙ ap (λ j. counted j read) (sym e)
 
 -- the slice from an offset on, as the checker reads it
@@ -141,7 +141,7 @@ module _ (sh : Shape) (room : Counts) where
       append-assoc head (entries ++ joined frame ls) (frame l) ∙ ap (λ t. head ++ t) (joined-more frame entries ls l)
 
   -- one record more: the bytes, and what fits
-  record Grown (f : Found) (b : Raw) (left : List ℕ) : Type 0 where
+  record Grown (f : RecordKind) (b : Raw) (left : List ℕ) : Type 0 where
     bytes : written sh b ++ framed (kindOf left) (payloadOf left) ≡ written sh (grown f b left)
     fits : Fits sh room (grown f b left)
 
@@ -170,7 +170,7 @@ module _ (sh : Shape) (room : Counts) where
         fits = record { entries = fits .entries; links = omega (arith, length-push (b .links) (linkOf (payloadOf left))); values = fits .values; joins = all-push _ (b .links) (linkOf (payloadOf left)) (fits .joins) fine };
       }
 
-  record-grown : (f : Found) (b : Raw) (left : List ℕ) → Fits sh room b → kindOf left ≡ numberOf f → Passed sh room (Some (countsOf b)) left → Grown f b left
+  record-grown : (f : RecordKind) (b : Raw) (left : List ℕ) → Fits sh room b → kindOf left ≡ numberOf f → Passed sh room (Some (countsOf b)) left → Grown f b left
   record-grown Entry b left fits kind p = entry-grown b left fits kind p
   record-grown LinkRecord b left fits kind p = link-grown b left fits kind p
 
@@ -185,11 +185,11 @@ module _ (sh : Shape) (room : Counts) where
   pub going-start : (bytes : List ℕ) → Bytes bytes → Passed sh room None bytes → Going bytes 6 (record { entries = 0; links = 0 })
   going-start bytes small p = record { book = empty; is = head-bytes bytes small p; reach = refl; counts = refl; fits = record { entries = omega arith; links = omega arith; values = tt; joins = tt } }
 
-  counts-grown : (f : Found) (b : Raw) (left : List ℕ) → counted f (countsOf b) ≡ countsOf (grown f b left)
+  counts-grown : (f : RecordKind) (b : Raw) (left : List ℕ) → counted f (countsOf b) ≡ countsOf (grown f b left)
   counts-grown Entry b left = ap (λ n. record { entries = n; links = length (b .links) }) (sym (length-push (b .payloads) (payloadOf left)))
   counts-grown LinkRecord b left = ap (λ n. record { entries = length (b .payloads); links = n }) (sym (length-push (b .links) (linkOf (payloadOf left))))
 
-  module _ (bytes : List ℕ) (at : ℕ) (read : Counts) (small : Bytes bytes) (f : Found) (g : Going bytes at read) (kind : kindOf (drop at bytes) ≡ numberOf f) (p : Passed sh room (Some read) (drop at bytes)) where
+  module _ (bytes : List ℕ) (at : ℕ) (read : Counts) (small : Bytes bytes) (f : RecordKind) (g : Going bytes at read) (kind : kindOf (drop at bytes) ≡ numberOf f) (p : Passed sh room (Some read) (drop at bytes)) where
     pub going-within : at + (4 + sizeOf (drop at bytes)) ≤ length bytes
     going-within = omega (arith, p .whole, length-drop at bytes)
 

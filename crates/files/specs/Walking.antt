@@ -8,15 +8,15 @@ use Rattle.std.specs.declared.result.Result.{Result}
 use Rattle.std.specs.declared.result.Result.the-variants.{Ok, Err}
 use Rattle.graphs.specs.declared.link.Link.{Link as GraphLink}
 use Rattle.kinds.specs.Payloads.{Shape, valid}
-use Rattle.files.specs.declared.check.Found.{Found}
-use Rattle.files.specs.declared.check.Found.the-variants.{Entry, Link}
+use Rattle.files.specs.declared.check.RecordKind.{RecordKind}
+use Rattle.files.specs.declared.check.RecordKind.the-variants.{Entry, Link}
 use Rattle.files.specs.declared.check.Record.{Record}
 use Rattle.refusals.specs.declared.Refusal.{Refusal}
 use Rattle.files.specs.declared.counts.Counts.{Counts}
 use Rattle.files.specs.Encoding.{entryKind, linkKind, Raw, written, countsOf, Fits}
 use Rattle.files.specs.Reading.{sizeOf, kindOf, payloadOf, linkOf, Refused}
 
-abbrev pub numberOf : Found → ℕ
+abbrev pub numberOf : RecordKind → ℕ
 numberOf Entry = entryKind
 numberOf Link = linkKind
 

@@ -9,21 +9,21 @@ ghost use Rattle.files.specs.Encoding.{entryKind, linkKind};
 ghost use Rattle.files.specs.Reading.{sizeOf, kindOf, rows};
 ghost use Rattle.files.specs.Walking.{Told, Surveyed};
 use crate::counts::Counts;
-use crate::frame::ENTRY;
-use crate::frame::HEAD;
+use crate::frame::ENTRY_KIND;
+use crate::frame::HEAD_KIND;
 use crate::frame::HEAD_SIZE;
-use crate::frame::HEADING;
-use crate::frame::LINK;
+use crate::frame::HEADING_SIZE;
+use crate::frame::LINK_KIND;
 use crate::frame::LINK_SIZE;
+use crate::frame::link_of;
 use crate::frame::two_bytes;
-use graphs::link::Link;
 use kinds::kind::Kind;
 use kinds::kind::Payload;
 use refusals::Refusal;
 
 // What may stand behind the head.
 #[derive(Clone, Copy)]
-pub(crate) enum Found {
+pub(crate) enum RecordKind {
     Entry,
     Link,
 }
@@ -31,7 +31,7 @@ pub(crate) enum Found {
 // A record that breaks no row: what it is, and the length of its payload.
 #[derive(Clone, Copy)]
 pub(crate) struct Record {
-    pub(crate) kind: Found,
+    pub(crate) kind: RecordKind,
     pub(crate) size: usize,
 }
 
@@ -39,16 +39,16 @@ pub(crate) struct Record {
 fn check_head<K: Kind>(bytes: &[u8]) -> Result<(), Refusal>
     ensures { λ r. ⌜ ((room : Counts) → ByRows (rows (Payload·Payload .shape) room None 0 (now (bytes .entry))) r (λ _. Unit {0})) ⌝ }
 {
-    if bytes.len() < HEADING {
+    if bytes.len() < HEADING_SIZE {
         return Err(Refusal::HeadingCut { at: 0 });
     }
-    if two_bytes(bytes[2], bytes[3]) != HEAD {
+    if two_bytes(bytes[2], bytes[3]) != HEAD_KIND {
         return Err(Refusal::RecordMisplaced { at: 0 });
     }
     if two_bytes(bytes[0], bytes[1]) as usize != HEAD_SIZE {
         return Err(Refusal::LengthUnfit { at: 0 });
     }
-    if bytes.len() < HEADING + HEAD_SIZE {
+    if bytes.len() < HEADING_SIZE + HEAD_SIZE {
         return Err(Refusal::PayloadCut { at: 0 });
     }
     if two_bytes(bytes[4], bytes[5]) != K::file_number() {
@@ -74,10 +74,10 @@ fn check_entry<K: Kind>(
     if !K::Payload::fits(size) {
         return Err(Refusal::LengthUnfit { at });
     }
-    if left.len() < HEADING + size {
+    if left.len() < HEADING_SIZE + size {
         return Err(Refusal::PayloadCut { at });
     }
-    if K::Payload::decode(&left[HEADING..HEADING + size]).is_none() {
+    if K::Payload::decode(&left[HEADING_SIZE..HEADING_SIZE + size]).is_none() {
         return Err(Refusal::NoSuchDay { at });
     }
     if read.entries >= room.entries {
@@ -102,14 +102,10 @@ fn check_link(
     if size != LINK_SIZE {
         return Err(Refusal::LengthUnfit { at });
     }
-    if left.len() < HEADING + LINK_SIZE {
+    if left.len() < HEADING_SIZE + LINK_SIZE {
         return Err(Refusal::PayloadCut { at });
     }
-    let link = Link {
-        from: left[4] as usize,
-        letter: left[5],
-        to: left[6] as usize,
-    };
+    let link = link_of(&left[HEADING_SIZE..HEADING_SIZE + LINK_SIZE]);
     if !link.is_sound(read.entries) {
         return Err(Refusal::LinkUnsound { at });
     }
@@ -128,21 +124,21 @@ fn check_record<K: Kind>(
 ) -> Result<Record, Refusal>
     ensures { λ r. ⌜ ByRows (rows (Payload·Payload .shape) room (Some read) at (now (left .entry))) r (λ x. Told x (now (left .entry))) ⌝ }
 {
-    if left.len() < HEADING {
+    if left.len() < HEADING_SIZE {
         return Err(Refusal::HeadingCut { at });
     }
     let size = two_bytes(left[0], left[1]) as usize;
     let kind = two_bytes(left[2], left[3]);
-    if kind == ENTRY && read.links == 0 {
+    if kind == ENTRY_KIND && read.links == 0 {
         check_entry::<K>(left, size, at, read, room)?;
         Ok(Record {
-            kind: Found::Entry,
+            kind: RecordKind::Entry,
             size,
         })
-    } else if kind == LINK {
+    } else if kind == LINK_KIND {
         check_link(left, size, at, read, room)?;
         Ok(Record {
-            kind: Found::Link,
+            kind: RecordKind::Link,
             size,
         })
     } else {
@@ -159,14 +155,14 @@ pub(crate) fn check<K: Kind>(bytes: &[u8], room: Counts) -> Result<Counts, Refus
         entries: 0,
         links: 0,
     };
-    let mut at = HEADING + HEAD_SIZE;
+    let mut at = HEADING_SIZE + HEAD_SIZE;
     while at < bytes.len() {
         let record = check_record::<K>(&bytes[at..], at, read, room)?;
         match record.kind {
-            Found::Entry => read.entries += 1,
-            Found::Link => read.links += 1,
+            RecordKind::Entry => read.entries += 1,
+            RecordKind::Link => read.links += 1,
         }
-        at += HEADING + record.size;
+        at += HEADING_SIZE + record.size;
     }
     Ok(read)
 }

@@ -4,8 +4,9 @@ ghost use mathlib.Core.Path.{_≡_};
 ghost use Prim.Native.Nat.{ℕ, _*_, _≤_};
 ghost use lib.ListN.{length, drop};
 ghost use Rattle.files.specs.Walking.{payloadsIn, behind, Lies, linksIn};
-use crate::frame::HEADING;
+use crate::frame::HEADING_SIZE;
 use crate::frame::LINK_SIZE;
+use crate::frame::link_of;
 use crate::frame::two_bytes;
 use graphs::link::Link;
 use kinds::kind::Kind;
@@ -23,10 +24,12 @@ pub(crate) fn fill_entries<K: Kind>(left: &[u8], entries: &mut [K]) -> usize
     for i in 0..entries.len() {
         let size = two_bytes(left[at], left[at + 1]) as usize;
         // The file was checked, so there is one.
-        if let Some(value) = K::Payload::decode(&left[at + HEADING..at + HEADING + size]) {
+        if let Some(value) = K::Payload::decode(
+            &left[at + HEADING_SIZE..at + HEADING_SIZE + size],
+        ) {
             entries[i] = value;
         }
-        at += HEADING + size;
+        at += HEADING_SIZE + size;
     }
     at
 }
@@ -37,11 +40,7 @@ pub(crate) fn fill_links(left: &[u8], links: &mut [Link])
     ensures { λ _. ⌜ now (links .exit) ≡ linksIn (length (now (links .entry))) (now (left .entry)) ⌝ }
 {
     for i in 0..links.len() {
-        let at = (HEADING + LINK_SIZE) * i;
-        links[i] = Link {
-            from: left[at + 4] as usize,
-            letter: left[at + 5],
-            to: left[at + 6] as usize,
-        };
+        let at = (HEADING_SIZE + LINK_SIZE) * i;
+        links[i] = link_of(&left[at + HEADING_SIZE..at + HEADING_SIZE + LINK_SIZE]);
     }
 }

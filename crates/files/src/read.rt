@@ -11,7 +11,7 @@ use crate::counts::MOST_LINKS;
 use crate::fill::fill_entries;
 use crate::fill::fill_links;
 use crate::frame::HEAD_SIZE;
-use crate::frame::HEADING;
+use crate::frame::HEADING_SIZE;
 use graphs::link::Link;
 use kinds::kind::Kind;
 use kinds::kind::Payload;
@@ -36,7 +36,7 @@ pub fn read_book<K: Kind>(
         entries: n,
         links: m,
     } = read;
-    let head = HEADING + HEAD_SIZE;
+    let head = HEADING_SIZE + HEAD_SIZE;
     let size = fill_entries::<K>(&bytes[head..], &mut entries[0..n]);
     fill_links(&bytes[head + size..], &mut links[0..m]);
     Ok(read)

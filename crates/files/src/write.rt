@@ -13,7 +13,7 @@ ghost use Rattle.files.specs.Encoding.{entryBytes};
 use crate::counts::MOST_ENTRIES;
 use crate::counts::MOST_LINKS;
 use crate::frame::HEAD_SIZE;
-use crate::frame::HEADING;
+use crate::frame::HEADING_SIZE;
 use crate::frame::LINK_SIZE;
 use crate::put::put_entries;
 use crate::put::put_head;
@@ -27,8 +27,8 @@ use refusals::Refusal;
 fn all_sound(links: &[Link], entries: usize) -> bool
     ensures { λ r. ⌜ r ≡ allSound entries (now (links .entry)) ⌝ }
 {
-    for i in 0..links.len() {
-        if !links[i].is_sound(entries) {
+    for link in links {
+        if !link.is_sound(entries) {
             return false;
         }
     }
@@ -50,8 +50,8 @@ fn entries_size<K: Kind>(entries: &[K]) -> usize
     ensures small { λ r. ⌜ r ≤ 128 * 65540 ⌝ }
 {
     let mut sum = 0;
-    for i in 0..entries.len() {
-        sum += HEADING + K::Payload::size(&entries[i]);
+    for entry in entries {
+        sum += HEADING_SIZE + K::Payload::size(entry);
     }
     sum
 }
@@ -64,9 +64,9 @@ pub fn write_book<K: Kind>(entries: &[K], links: &[Link], out: &mut [u8]) -> Res
     if !is_writable(entries.len(), links) {
         return Err(Refusal::BookUnwritable);
     }
-    let head = HEADING + HEAD_SIZE;
+    let head = HEADING_SIZE + HEAD_SIZE;
     let middle = head + entries_size(entries);
-    let end = middle + (HEADING + LINK_SIZE) * links.len();
+    let end = middle + (HEADING_SIZE + LINK_SIZE) * links.len();
     if out.len() < end {
         return Err(Refusal::BytesTooShort);
     }

@@ -35,6 +35,10 @@ abbrev pub sheetDays : ℕ → ℕ → ℕ → List SheetDay
 sheetDays year month zero = []
 sheetDays year month (suc count) = monthDays month 1 (daysOf year month) ++ sheetDays year (month + 1) count
 
+-- the day of an entry
+abbrev pub dayAt : List SheetDay → ℕ → SheetDay
+dayAt days i = getD days i (0, 0)
+
 -- the number of the entry that a day has among some days
 abbrev pub entryOf : List SheetDay → SheetDay → Option ℕ
 entryOf [] day = None
@@ -62,7 +66,7 @@ abbrev pub placesOf : List SheetDay → ℕ → List (Option Link)
 placesOf days i =
     later (length days) i dayLetter 1
     ∷ later (length days) i weekLetter 7
-    ∷ mapped (linkTo i monthLetter) (entryOf days (getD days i (0, 0) .0 + 1, getD days i (0, 0) .1))
+    ∷ mapped (linkTo i monthLetter) (entryOf days (dayAt days i .0 + 1, dayAt days i .1))
     ∷ []
 
 -- the entries are the days in order, and hold the days of the month; each has its three places

@@ -20,6 +20,10 @@ use Rattle.refusals.specs.declared.Refusal.the-variants.{InputTooLong}
 use Rattle.imports.specs.declared.check.Import.{Import}
 use Rattle.imports.specs.Input.{bookFile, valueKind}
 
+-- the program takes at most so many bytes
+abbrev pub mostInput : ℕ
+mostInput = 8192
+
 -- the room that the program has
 abbrev pub programRoom : Counts
 programRoom = record { entries = 16; links = 256 }
@@ -43,5 +47,5 @@ CheckedAs sh encoded room file (Err x) = Refused sh room file x
 -- the check of the program's input: too long, or the book file behind the wording, of days where its head says 2 and otherwise of names
 abbrev pub Imported : List ℕ → Result Import Refusal → Type 0
 Imported input r =
-    When (ltb 8192 (length input)) (r ≡ Err InputTooLong)
+    When (ltb mostInput (length input)) (r ≡ Err InputTooLong)
     (When (eqb (valueKind (bookFile input)) 2) (CheckedAs dayShape dayBytes programRoom (bookFile input) r) (CheckedAs nameShape text programRoom (bookFile input) r))

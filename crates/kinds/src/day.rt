@@ -18,7 +18,7 @@ use crate::payload::kept_within;
 use crate::years::new_year;
 
 // The bytes of a payload.
-const PAYLOAD: usize = 5;
+const PAYLOAD_SIZE: usize = 5;
 
 // A day of a month of a year. Fields that are no day's stand for some day all the same.
 #[derive(Clone, Copy)]
@@ -71,7 +71,7 @@ impl Day {
         new_year(self.calendar, year) + before + (self.on_date() as u32 - 1)
     }
 
-    fn payload(&self) -> [u8; PAYLOAD]
+    fn payload(&self) -> [u8; PAYLOAD_SIZE]
         ensures { λ r. ⌜ r ≡ dayBytes (now (self .entry)) ⌝ }
     {
         let [low, high] = self.in_year().to_le_bytes();
@@ -110,11 +110,11 @@ pub impl Payload<Day> for DayPayload as DayInFile {
     ghost known = { day-known };
 
     fn fits(length: usize) -> bool {
-        length == PAYLOAD
+        length == PAYLOAD_SIZE
     }
 
     fn decode(payload: &[u8]) -> Option<Day> {
-        if payload.len() != PAYLOAD {
+        if payload.len() != PAYLOAD_SIZE {
             return None;
         }
         let day = Day {
@@ -127,7 +127,7 @@ pub impl Payload<Day> for DayPayload as DayInFile {
     }
 
     fn size(_value: &Day) -> usize {
-        PAYLOAD
+        PAYLOAD_SIZE
     }
 
     fn write(value: &Day, out: &mut [u8]) {

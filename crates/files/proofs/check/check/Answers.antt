@@ -1,7 +1,7 @@
 use mathlib.Core.Path.{_≡_}
 use borrow.Author.Needs.{needs}
 use Rattle.std.proofs.shelf.Results.{err-from-errBy}
-use Rattle.files.specs.declared.check.Found.the-variants.{Entry, Link}
+use Rattle.files.specs.declared.check.RecordKind.the-variants.{Entry, Link}
 use Rattle.files.proofs.Growing.{Going, counted, counted-as, going-start, Onward, going-on, going-refused, going-done}
 use Rattle.files.proofs.Passing.{passed}
 use Rattle.files.proofs.check.check.Needs as need

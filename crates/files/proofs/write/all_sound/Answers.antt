@@ -5,10 +5,10 @@ use Rattle.files.proofs.Putting.{sound-more, sound-stop}
 use Rattle.files.proofs.write.all_sound.Needs as need
 
 pub returns-then-not-is-sound : need.returns-then-not-is-sound
-returns-then-not-is-sound c = sound-stop (c .args .entries) (c .args .links .now) (c .loop-i .i) _ _ (c .loop-i-test .taken) (c .loop-i .inv) (sym (c .if-not-is-sound .ensures tt))
+returns-then-not-is-sound c = sound-stop (c .args .entries) (c .args .links .now) (c .loop-link .link-index) _ _ (c .loop-link-test .taken) (c .loop-link .inv) (sym (c .if-not-is-sound .ensures tt))
 
-pub loop-i-again : need.loop-i-again
-loop-i-again c = sound-more (c .args .entries) (c .args .links .now) (c .loop-i .i) _ _ (c .loop-i-test .taken) (c .loop-i .inv) (sym (c .if-not-is-sound .ensures tt))
+pub loop-link-again : need.loop-link-again
+loop-link-again c = sound-more (c .args .entries) (c .args .links .now) (c .loop-link .link-index) _ _ (c .loop-link-test .taken) (c .loop-link .inv) (sym (c .if-not-is-sound .ensures tt))
 
 pub returns : need.returns
-returns c = sym (at-drop-all (allSound (c .args .entries)) (c .args .links .now) (c .loop-i .i) (c .loop-i-test .left)) ∙ c .loop-i .inv
+returns c = sym (at-drop-all (allSound (c .args .entries)) (c .args .links .now) (c .loop-link .link-index) (c .loop-link-test .left)) ∙ c .loop-link .inv
