@@ -42,7 +42,7 @@ fn work_book<K: Kind>(
     links: &mut [Link],
     cells: &mut [u32],
 ) -> Result<usize, Refusal>
-    ensures { WorkedAs Payload-as-Payload.shape Payload-as-Payload.encoded K.Kind.alike (room_of entries.old links.old) file.now query.old.condition cells.old query.new.condition cells.new result }
+    ensures { WorkedAs K.Payload.Payload.shape K.Payload.Payload.encoded K.Kind.alike (room_of entries.old links.old) file.now query.old.condition cells.old query.new.condition cells.new result }
 {
     let Counts {
         entries: n,

@@ -1,4 +1,6 @@
 // Worked examples: books, days and every refusal, run and compared with what they should give.
+#![tactic(auto)]
+
 use imports::report::{Report, report_on};
 use kinds::calendar::Calendar;
 use kinds::day::Day;

@@ -29,7 +29,7 @@ pub(crate) struct Record {
 
 // The rows for the first record, which must be the head.
 fn check_head<K: Kind>(bytes: &[u8]) -> Result<(), Refusal>
-    ensures { (room : Counts) → ByRows (rows Payload-as-Payload.shape room None 0 bytes.now) result (λ _. Unit {0}) }
+    ensures { (room : Counts) → ByRows (rows K.Payload.Payload.shape room None 0 bytes.now) result (λ _. Unit {0}) }
 {
     if bytes.len() < HEADING_SIZE {
         return Err(Refusal::HeadingCut { at: 0 });
@@ -61,7 +61,7 @@ fn check_entry<K: Kind>(
     requires kind { kind_of left.now ≡ entry_kind }
     requires size { size ≡ size_of left.now }
     requires early { read.links ≡ 0 }
-    ensures { ByRows (rows Payload-as-Payload.shape room (Some read) at left.now) result (λ _. Unit {0}) }
+    ensures { ByRows (rows K.Payload.Payload.shape room (Some read) at left.now) result (λ _. Unit {0}) }
 {
     if !K::Payload::fits(size) {
         return Err(Refusal::LengthUnfit { at });
@@ -114,7 +114,7 @@ fn check_record<K: Kind>(
     read: Counts,
     room: Counts,
 ) -> Result<Record, Refusal>
-    ensures { ByRows (rows Payload-as-Payload.shape room (Some read) at left.now) result (λ x. Told x left.now) }
+    ensures { ByRows (rows K.Payload.Payload.shape room (Some read) at left.now) result (λ x. Told x left.now) }
 {
     if left.len() < HEADING_SIZE {
         return Err(Refusal::HeadingCut { at });
@@ -140,7 +140,7 @@ fn check_record<K: Kind>(
 
 // How many entries and links the file has.
 pub(crate) fn check<K: Kind>(bytes: &[u8], room: Counts) -> Result<Counts, Refusal>
-    ensures { Surveyed Payload-as-Payload.shape room bytes.now result }
+    ensures { Surveyed K.Payload.Payload.shape room bytes.now result }
 {
     check_head::<K>(bytes)?;
     let mut read = Counts {

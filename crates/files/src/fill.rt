@@ -8,9 +8,9 @@ use kinds::kind::{Kind, Payload};
 
 // Fills the entries from as many records at the front of `left`, and tells how many bytes these take.
 pub(crate) fn fill_entries<K: Kind>(left: &[u8], entries: &mut [K]) -> usize
-    requires { Lies Payload-as-Payload.shape (length entries.old) left.now }
-    ensures held { map Payload-as-Payload.encoded entries.new ≡ payloads_in (length entries.old) left.now }
-    ensures stored { entries.new ≡ map Payload-as-Payload.decoded (map Payload-as-Payload.encoded entries.new) }
+    requires { Lies K.Payload.Payload.shape (length entries.old) left.now }
+    ensures held { map K.Payload.Payload.encoded entries.new ≡ payloads_in (length entries.old) left.now }
+    ensures stored { entries.new ≡ map K.Payload.Payload.decoded (map K.Payload.Payload.encoded entries.new) }
     ensures within { result ≤ length left.now }
     ensures behind { drop result left.now ≡ behind (length entries.old) left.now }
 {

@@ -1,4 +1,6 @@
 // Books as files: reading and writing.
+#![tactic(auto)]
+
 mod check;
 pub mod counts;
 mod fill;

@@ -9,17 +9,17 @@ use kinds::kind::{Kind, Payload};
 
 pub(crate) fn put_head<K: Kind>(out: &mut [u8])
     requires { length out.old ≡ 6 }
-    ensures { out.new ≡ framed head_kind (two_bytes Payload-as-Payload.shape.number) }
+    ensures { out.new ≡ framed head_kind (two_bytes K.Payload.Payload.shape.number) }
 {
     let [low, high] = K::file_number().to_le_bytes();
     out.copy_from_slice(&[HEAD_SIZE as u8, 0, HEAD_KIND as u8, 0, low, high]);
 }
 
 fn put_entry<K: Kind>(entry: &K, size: usize, out: &mut [u8])
-    requires size { size ≡ length (Payload-as-Payload.encoded entry.now) }
+    requires size { size ≡ length (K.Payload.Payload.encoded entry.now) }
     requires small { size < 65536 }
     requires room { length out.old ≡ 4 + size }
-    ensures { out.new ≡ framed entry_kind (Payload-as-Payload.encoded entry.now) }
+    ensures { out.new ≡ framed entry_kind (K.Payload.Payload.encoded entry.now) }
 {
     let [low, high] = (size as u16).to_le_bytes();
     out[0..HEADING_SIZE].copy_from_slice(&[low, high, ENTRY_KIND as u8, 0]);
@@ -27,8 +27,8 @@ fn put_entry<K: Kind>(entry: &K, size: usize, out: &mut [u8])
 }
 
 pub(crate) fn put_entries<K: Kind>(entries: &[K], out: &mut [u8])
-    requires { length out.old ≡ length (entry_bytes Payload-as-Payload.encoded entries.now) }
-    ensures { out.new ≡ entry_bytes Payload-as-Payload.encoded entries.now }
+    requires { length out.old ≡ length (entry_bytes K.Payload.Payload.encoded entries.now) }
+    ensures { out.new ≡ entry_bytes K.Payload.Payload.encoded entries.now }
 {
     let mut at = 0;
     for entry in entries {

@@ -16,9 +16,9 @@ pub fn read_book<K: Kind>(
     entries: &mut [K],
     links: &mut [Link],
 ) -> Result<Counts, Refusal>
-    ensures decided { Decided Payload-as-Payload.shape (room_of entries.old links.old) bytes.now result }
-    ensures read { ReadBook Payload-as-Payload.shape Payload-as-Payload.encoded Payload-as-Payload.decoded bytes.now entries.old entries.new links.old links.new result }
-    ensures again { IfOk result (λ n. SameFile Payload-as-Payload.shape Payload-as-Payload.encoded bytes.now (take n.entries entries.new) (take n.links links.new)) }
+    ensures decided { Decided K.Payload.Payload.shape (room_of entries.old links.old) bytes.now result }
+    ensures read { ReadBook K.Payload.Payload.shape K.Payload.Payload.encoded K.Payload.Payload.decoded bytes.now entries.old entries.new links.old links.new result }
+    ensures again { IfOk result (λ n. SameFile K.Payload.Payload.shape K.Payload.Payload.encoded bytes.now (take n.entries entries.new) (take n.links links.new)) }
 {
     let room = Counts {
         entries: entries.len().min(MOST_ENTRIES),

@@ -35,8 +35,8 @@ fn is_writable(entries: usize, links: &[Link]) -> bool
 // How many bytes the records of the entries take.
 fn entries_size<K: Kind>(entries: &[K]) -> usize
     requires { length entries.now ≤ 128 }
-    ensures is { result ≡ length (entry_bytes Payload-as-Payload.encoded entries.now) }
-    ensures values { All (λ p. valid Payload-as-Payload.shape p ≡ true) (map Payload-as-Payload.encoded entries.now) }
+    ensures is { result ≡ length (entry_bytes K.Payload.Payload.encoded entries.now) }
+    ensures values { All (λ p. valid K.Payload.Payload.shape p ≡ true) (map K.Payload.Payload.encoded entries.now) }
     ensures small { result ≤ 128 * 65540 }
 {
     let mut sum = 0;
@@ -48,8 +48,8 @@ fn entries_size<K: Kind>(entries: &[K]) -> usize
 
 // Writes a book of one kind of value to the front of a buffer, and tells how many bytes it takes.
 pub fn write_book<K: Kind>(entries: &[K], links: &[Link], out: &mut [u8]) -> Result<usize, Refusal>
-    ensures written { WriteBook Payload-as-Payload.shape Payload-as-Payload.encoded entries.now links.now out.old out.new result }
-    ensures again { IfOk result (λ n. SameBook Payload-as-Payload.shape Payload-as-Payload.encoded Payload-as-Payload.decoded Payload-as-Payload.agree (take n out.new) entries.now links.now) }
+    ensures written { WriteBook K.Payload.Payload.shape K.Payload.Payload.encoded entries.now links.now out.old out.new result }
+    ensures again { IfOk result (λ n. SameBook K.Payload.Payload.shape K.Payload.Payload.encoded K.Payload.Payload.decoded K.Payload.Payload.agree (take n out.new) entries.now links.now) }
 {
     if !is_writable(entries.len(), links) {
         return Err(Refusal::BookUnwritable);

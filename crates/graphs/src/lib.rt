@@ -1,4 +1,6 @@
 // Graphs of entries and lettered links, and the sources that mean them.
+#![tactic(auto)]
+
 pub mod book;
 pub mod layers;
 pub mod link;

@@ -50,7 +50,7 @@ fn check_book<K: Kind>(
     again: &mut [u8],
 ) -> Result<Import, Refusal>
     requires { length file.now ≤ length again.old }
-    ensures { CheckedAs Payload-as-Payload.shape Payload-as-Payload.encoded (room_of entries.old links.old) file.now result }
+    ensures { CheckedAs K.Payload.Payload.shape K.Payload.Payload.encoded (room_of entries.old links.old) file.now result }
 {
     let read = read_book::<K>(file, entries, links)?;
     let Counts {

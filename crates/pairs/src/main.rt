@@ -1,4 +1,6 @@
 // Reads a wording, byte 10 and a book file from standard input, checks the file, and prints the record of the import or the line of the refusal.
+#![tactic(auto)]
+
 use anyhow::anyhow;
 use imports::input::MOST_INPUT;
 use imports::report::{Report, report_on};

@@ -1,4 +1,6 @@
 // Queries: an expression that is parsed, evaluated over a source, and asked about pairs of entries.
+#![tactic(auto)]
+
 ghost use Rattle.std.specs.Prelude.{◌≡◌, ℕ, ◌≤◌, true};
 ghost use Rattle.expressions.specs.Numbering.{well_formed};
 ghost use Rattle.queries.specs.Conditions.{count_in, entries_in, list_in};

@@ -1,4 +1,6 @@
 // Why a call is refused: one enum for the whole library, with the number and the place that each case has.
+#![tactic(auto)]
+
 ghost use Rattle.std.specs.Prelude.{◌≡◌, ℕ};
 ghost use Rattle.refusals.specs.Table.{number, place};
 

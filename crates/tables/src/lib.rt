@@ -1,4 +1,6 @@
 // Tables of cells: how the block of each part of an expression is filled from those of its halves.
+#![tactic(auto)]
+
 mod block;
 pub mod cell;
 mod close;

@@ -1,4 +1,6 @@
 // Worked examples of questions and wordings, run and compared with what they should give; and a table of those that are proved.
+#![tactic(auto)]
+
 use asking::answer::answer_to;
 use kinds::calendar::Calendar;
 use kinds::day::Day;
