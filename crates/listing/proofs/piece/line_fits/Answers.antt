@@ -8,11 +8,11 @@ use Rattle.listing.proofs.piece.line_fits.Goals as goal
 
 pub returns-then-size-left : goal.returns-then-size-left
 returns-then-size-left c =
-    sym (lt-leb _ _ (omega (arith, c.loop-piece.invariant, c.piece-size-size.ensures, c.if-size-left.true, size_within c.args.pieces.now c.loop-piece.piece-index (Number 0) c.loop-piece-test.true)))
+    sym (lt-leb _ _ (omega (arith, c.loop-piece.invariant, c.piece_size-size.ensures, c.if-size-left.true, size_within c.args.pieces.now c.loop-piece.piece-index (Number 0) c.loop-piece-test.true)))
 
 pub loop-piece-preserved : goal.loop-piece-preserved
 loop-piece-preserved c =
-    omega (arith, c.loop-piece.invariant, c.piece-size-size.ensures, c.if-size-left.false, size_more c.args.pieces.now c.loop-piece.piece-index (Number 0) c.loop-piece-test.true)
+    omega (arith, c.loop-piece.invariant, c.piece_size-size.ensures, c.if-size-left.false, size_more c.args.pieces.now c.loop-piece.piece-index (Number 0) c.loop-piece-test.true)
 
 pub returns : goal.returns
 returns c =

@@ -3,8 +3,8 @@ use Rattle.std.proofs.lemmas.Fmt.{decimal_digit}
 use Rattle.listing.proofs.Putting.{tens_length, digits_few}
 use Rattle.listing.proofs.text.digits.Goals as goal
 
-pub overflow-add-count : goal.overflow-add-count
-overflow-add-count c =
+pub overflow_add-count : goal.overflow_add-count
+overflow_add-count c =
     let small : c.args.n < 2 ^ 64 = omega arith in
     let few = (digits_few c.args.n small).1 in
     let inv = c.loop-left.invariant.0 in

@@ -6,4 +6,4 @@ pub returns-then-place-self : goal.returns-then-place-self
 returns-then-place-self g c = read_past (length c.args.self.now.values.now) c.args.self.now.links.now c.args.place c.if-place-self.true
 
 pub returns : goal.returns
-returns g c = c.read-among.ensures ∙ read_in (length c.args.self.now.values.now) c.args.self.now.links.now c.args.place _ c.if-place-self.false
+returns g c = c.read_among.ensures ∙ read_in (length c.args.self.now.values.now) c.args.self.now.links.now c.args.place _ c.if-place-self.false

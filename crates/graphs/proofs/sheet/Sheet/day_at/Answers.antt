@@ -8,10 +8,10 @@ returns-then-left-length c =
     let few = (sheet_few s.year s.month s.count s.ok).1 in
     record {
       months = omega (arith, few, c.loop-month-test.true);
-      is = day_here s.year c.loop-month.month (s.month + s.count) c.loop-month-test.true c.loop-month.left c.length-of-length.result _ c.length-of-length.ensures.is c.if-left-length.true c.loop-month.invariant;
+      is = day_here s.year c.loop-month.month (s.month + s.count) c.loop-month-test.true c.loop-month.left c.length_of-length.result _ c.length_of-length.ensures.is c.if-left-length.true c.loop-month.invariant;
     }
 
 pub loop-month-preserved : goal.loop-month-preserved
 loop-month-preserved c =
     let s = c.args.self.now in
-    day_more s.year c.loop-month.month (s.month + s.count) c.loop-month-test.true c.loop-month.left c.length-of-length.result _ c.length-of-length.ensures.is c.if-left-length.false c.loop-month.invariant
+    day_more s.year c.loop-month.month (s.month + s.count) c.loop-month-test.true c.loop-month.left c.length_of-length.result _ c.length_of-length.ensures.is c.if-left-length.false c.loop-month.invariant

@@ -5,7 +5,7 @@ use Rattle.graphs.proofs.sheet.Sheet.days.Goals as goal
 pub loop-month-preserved : goal.loop-month-preserved
 loop-month-preserved c =
     let s = c.args.self.now in
-    (days_more s.year c.loop-month.month (s.month + s.count) c.loop-month-test.true c.loop-month.days c.length-of-days.result _ c.length-of-days.ensures.is c.loop-month.invariant.0, omega (arith, c.loop-month.invariant.1, c.loop-month.auto.month, c.length-of-days.ensures.few))
+    (days_more s.year c.loop-month.month (s.month + s.count) c.loop-month-test.true c.loop-month.days c.length_of-days.result _ c.length_of-days.ensures.is c.loop-month.invariant.0, omega (arith, c.loop-month.invariant.1, c.loop-month.auto.month, c.length_of-days.ensures.few))
 
 pub returns : goal.returns
 returns c =
