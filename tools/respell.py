@@ -25,14 +25,14 @@ CHOSEN = {
     "link-from": "link_from_lem",
     "value-kind": "value_kind_lem",
 }
-JOINED = ("length-", "satAdd-")
+JOINED = ("length-", "satAdd-", "sat_add-")
 
 NAME = r"[^\s:{}()\[\];,.λ⌜⌝`\"]+"
 HEAD = re.compile(
     rf"^(?:pub |abbrev |unfoldable |abbrev pub |unfoldable pub |pub record |record |pub data |data )?({NAME})(?: [({{].*?)? :(?: |$)",
     re.M,
 )
-MEMBER = re.compile(rf"^  (?:pub )?((?:{NAME} )+):(?: |$)", re.M)
+MEMBER = re.compile(rf"^ +(?:pub )?((?:{NAME} )+):(?: |$)", re.M)
 GOAL = re.compile(rf"^(?:pub |abbrev pub |abbrev )?({NAME}) : (?:goal|need)\.\S", re.M)
 
 
@@ -78,7 +78,8 @@ def main():
         print("falls together:", k, sorted(v))
     if "--list" in sys.argv or clash:
         return
-    token = re.compile(r"(?<![A-Za-z0-9_'-])[A-Za-z0-9_'-]+(?![A-Za-z0-9_'-])")
+    # a function's name in the path of its goals is a name of src/
+    token = re.compile(r"(?<![A-Za-z0-9_'-])[A-Za-z0-9_'-]+(?![A-Za-z0-9_'-])(?!\.Goals|\.Given|\.Needs)")
     new = lambda m: table.get(m.group(0), m.group(0))
     # words of a comment are changed only where they can be nothing but a name
     noted = lambda m: m.group(0) if "-" in m.group(0) else new(m)
@@ -91,7 +92,9 @@ def main():
         text = open(p, encoding="utf-8").read()
         spans = mask(text)
         inside = lambda i: any(a <= i < b for a, b in spans)
-        out = token.sub(lambda m: m.group(0) if inside(m.start()) else new(m), text)
+        # a plain word of a .rt file may be a name of src/
+        plain = lambda m: inside(m.start()) or not re.search("[A-Z-]", m.group(0))
+        out = token.sub(lambda m: m.group(0) if plain(m) else new(m), text)
         if out != text:
             open(p, "w", encoding="utf-8").write(out)
     quoted = lambda m: token.sub(noted, m.group(0))

@@ -48,18 +48,18 @@ cells_told t t' q' text parts a g e u v hu hv =
 
 -- a wording that was parsed, and one that was refused
 pub wording_kept : (text : List ℕ) (q q' : Condition) → Parses q text q' (Ok tt) → (parts : Parts) × Accepted text parts × (q' ≡ Parsed parts)
-wording_kept text q q' p = by-judged p.judged p.parsed p.follows
+wording_kept text q q' p = by_judged p.judged p.parsed p.follows
   where
-    by-judged : (j : Result Parts Refusal) → WordingParsed text j → Follows q j q' (Ok tt) → (parts : Parts) × Accepted text parts × (q' ≡ Parsed parts)
-    by-judged (Ok parts) a f = (parts, a, f.0)
-    by-judged (Err x) a f = absurd (let z : ◌≡◌ {A = ℕ} 0 1 = cc in omega arith)
+    by_judged : (j : Result Parts Refusal) → WordingParsed text j → Follows q j q' (Ok tt) → (parts : Parts) × Accepted text parts × (q' ≡ Parsed parts)
+    by_judged (Ok parts) a f = (parts, a, f.0)
+    by_judged (Err x) a f = absurd (let z : ◌≡◌ {A = ℕ} 0 1 = cc in omega arith)
 
 pub wording_refused : (text : List ℕ) (q q' : Condition) (x : Refusal) → Parses q text q' (Err x) → WordingRefused text x
-wording_refused text q q' x p = by-judged p.judged p.parsed p.follows
+wording_refused text q q' x p = by_judged p.judged p.parsed p.follows
   where
-    by-judged : (j : Result Parts Refusal) → WordingParsed text j → Follows q j q' (Err x) → WordingRefused text x
-    by-judged (Ok parts) a f = absurd (let z : ◌≡◌ {A = ℕ} 0 1 = cc in omega arith)
-    by-judged (Err y) a f = let e : y ≡ x = cc in subst (WordingRefused text) e a
+    by_judged : (j : Result Parts Refusal) → WordingParsed text j → Follows q j q' (Err x) → WordingRefused text x
+    by_judged (Ok parts) a f = absurd (let z : ◌≡◌ {A = ℕ} 0 1 = cc in omega arith)
+    by_judged (Err y) a f = let e : y ≡ x = cc in subst (WordingRefused text) e a
 
 -- the answer, from what was evaluated and listed
 pub listed_by : (input t t' : List ℕ) (q' : Condition) (n : ℕ) (lines : List ℕ) → length t ≡ program_cells → Asks input t q' t' n → lines ≡ first_line n (tallied (whole_cell q' t') (entries_in q') (entries_in q')) ++ pairs_text (whole_cell q' t') n n → Answered input lines true

@@ -50,29 +50,29 @@ module _ {V : Type 0} (sh : Shape) (bytes : List ℕ) (es : List V) (ls : List L
   lies = rw (front, body_is) (lies_written sh book.payloads _ s.2.values)
 
   module _ (r : ℕ) (within : r ≤ length (body bytes)) (rest : drop r (body bytes) ≡ behind (length (take (n.entries - 0) es)) (body bytes)) where
-    links-left : take (length bytes - (6 + r)) (drop (6 + r) bytes) ≡ links_bytes book.links
-    links-left =
+    links_left : take (length bytes - (6 + r)) (drop (6 + r) bytes) ≡ links_bytes book.links
+    links_left =
         let a : drop r (body bytes) ≡ links_bytes book.links = rest ∙ rw (front, body_is) (behind_written book.payloads _) in
         let b : drop r (drop 6 bytes) ≡ links_bytes book.links = rw (take_rest bytes 6) at a in
         take_rest bytes (6 + r) ∙ sym (drop-drop r 6 bytes) ∙ b
 
-    pub links-lie : length (take (length bytes - (6 + r)) (drop (6 + r) bytes)) ≡ 7 * length (take (n.links - 0) ls)
-    links-lie = ap length links-left ∙ links_length book.links ∙ ap (λ m. 7 * m) (sym behind_front)
+    pub links_lie : length (take (length bytes - (6 + r)) (drop (6 + r) bytes)) ≡ 7 * length (take (n.links - 0) ls)
+    links_lie = ap length links_left ∙ links_length book.links ∙ ap (λ m. 7 * m) (sym behind_front)
 
     pub booked : (encoded : V → List ℕ) (decoded : List ℕ → V) (es1 : List V) (ls1 : List Link) → map encoded es1 ≡ payloads_in (length (take (n.entries - 0) es)) (body bytes) → es1 ≡ map decoded (map encoded es1) → ls1 ≡ links_in (length (take (n.links - 0) ls)) (take (length bytes - (6 + r)) (drop (6 + r) bytes)) → Held sh encoded decoded bytes es (es1 ++ drop (n.entries - 0) es) ls (ls1 ++ drop (n.links - 0) ls) n
     booked encoded decoded es1 ls1 held stored held-links =
-        let es-is : map encoded es1 ≡ book.payloads = held ∙ rw (front, body_is) (payloads_written book.payloads _) in
-        let ls-is : ls1 ≡ book.links = held-links ∙ rw (behind_front, links-left) (links_written book.links) in
-        let es-len : length es1 ≡ n.entries = sym (length-map es1 encoded) ∙ ap length es-is ∙ sym entries_are in
-        let ls-len : length ls1 ≡ n.links = ap length ls-is ∙ sym links_are in
-        let te : take n.entries (es1 ++ drop (n.entries - 0) es) ≡ es1 = take_at es1 _ n.entries es-len in
-        let tl : take n.links (ls1 ++ drop (n.links - 0) ls) ≡ ls1 = take_at ls1 _ n.links ls-len in
-        let is : book ≡ raw_book encoded (take n.entries (es1 ++ drop (n.entries - 0) es)) (take n.links (ls1 ++ drop (n.links - 0) ls)) = rw (te, tl, es-is, ls-is) in
+        let es_is : map encoded es1 ≡ book.payloads = held ∙ rw (front, body_is) (payloads_written book.payloads _) in
+        let ls_is : ls1 ≡ book.links = held-links ∙ rw (behind_front, links_left) (links_written book.links) in
+        let es_len : length es1 ≡ n.entries = sym (length-map es1 encoded) ∙ ap length es_is ∙ sym entries_are in
+        let ls_len : length ls1 ≡ n.links = ap length ls_is ∙ sym links_are in
+        let te : take n.entries (es1 ++ drop (n.entries - 0) es) ≡ es1 = take_at es1 _ n.entries es_len in
+        let tl : take n.links (ls1 ++ drop (n.links - 0) ls) ≡ ls1 = take_at ls1 _ n.links ls_len in
+        let is : book ≡ raw_book encoded (take n.entries (es1 ++ drop (n.entries - 0) es)) (take n.links (ls1 ++ drop (n.links - 0) ls)) = rw (te, tl, es_is, ls_is) in
         record {
           file = s.1 ∙ ap (written sh) is;
           fits = subst (Fits sh (room_of es ls)) is s.2;
           counts = s.3 ∙ ap counts_of is;
           stored = te ∙ stored ∙ ap (λ xs. map decoded (map encoded xs)) (sym te);
-          other-values = drop_at es1 _ n.entries es-len ∙ ap (λ m. drop m es) (omega arith);
-          other-links = drop_at ls1 _ n.links ls-len ∙ ap (λ m. drop m ls) (omega arith);
+          other_values = drop_at es1 _ n.entries es_len ∙ ap (λ m. drop m es) (omega arith);
+          other_links = drop_at ls1 _ n.links ls_len ∙ ap (λ m. drop m ls) (omega arith);
         }

@@ -37,14 +37,14 @@ module _ {V : Type 0} (sh : Shape) (encoded : V → List ℕ) (decoded : List �
     here : Lies sh (suc (n - (i + 1))) (drop at left)
     here = let m : n - i ≡ suc (n - (i + 1)) = omega arith in rw m at f.lies
 
-    pub filling-room : at + (4 + size_of (drop at left)) ≤ length left
-    filling-room = omega (arith, here.0, length-drop at left, f.within)
+    pub filling_room : at + (4 + size_of (drop at left)) ≤ length left
+    filling_room = omega (arith, here.0, length-drop at left, f.within)
 
-    pub filling-valid : valid sh (payload_of (drop at left)) ≡ true
-    filling-valid = here.1
+    pub filling_valid : valid sh (payload_of (drop at left)) ≡ true
+    filling_valid = here.1
 
-    pub filling-more : (size : ℕ) (x : V) → length values ≡ n → size ≡ size_of (drop at left) → x ≡ decoded (payload_of (drop at left)) → encoded x ≡ payload_of (drop at left) → Filling (set values i x) (i + 1) (at + (4 + size))
-    filling-more size x len es ex back =
+    pub filling_more : (size : ℕ) (x : V) → length values ≡ n → size ≡ size_of (drop at left) → x ≡ decoded (payload_of (drop at left)) → encoded x ≡ payload_of (drop at left) → Filling (set values i x) (i + 1) (at + (4 + size))
+    filling_more size x len es ex back =
         let here-at = drop at left in
         let inside : i < length values = omega arith in
         let m : n - i ≡ suc (n - (i + 1)) = omega arith in
@@ -54,7 +54,7 @@ module _ {V : Type 0} (sh : Shape) (encoded : V → List ℕ) (decoded : List �
         let held : map encoded (take i values) ++ payloads_in (suc (n - (i + 1))) here-at ≡ payloads_in n left = rw m at f.held in
         let rest : behind (suc (n - (i + 1))) here-at ≡ behind n left = rw m at f.rest in
         record {
-          within = omega (arith, filling-room);
+          within = omega (arith, filling_room);
           lies = rw d here.2;
           held = rw (pays, d) (append_assoc (map encoded (take i values)) (payload_of here-at ∷ []) _ ∙ held);
           stored = front ∙ ap (λ xs. xs ++ x ∷ []) f.stored ∙ ap (λ y. map decoded (map encoded (take i values)) ++ y ∷ []) ex ∙ sym (map_push decoded (map encoded (take i values)) (payload_of here-at)) ∙ ap (map decoded) (sym pays);
@@ -62,16 +62,16 @@ module _ {V : Type 0} (sh : Shape) (encoded : V → List ℕ) (decoded : List �
         }
 
     -- what decoding the payload there gives
-    pub filling-decoded : (values' : List V) (size : ℕ) (p : List ℕ) (x : V) → length values ≡ n → size ≡ size_of (drop at left) → p ≡ payload_of (drop at left) → Some x ≡ cond (valid sh p) (Some (decoded p)) None → encoded x ≡ p → values' ≡ set values i x → Filling values' (i + 1) (at + (4 + size))
-    filling-decoded values' size p x len es ep e back is =
-        let fine : valid sh p ≡ true = ap (valid sh) ep ∙ filling-valid in
+    pub filling_decoded : (values' : List V) (size : ℕ) (p : List ℕ) (x : V) → length values ≡ n → size ≡ size_of (drop at left) → p ≡ payload_of (drop at left) → Some x ≡ cond (valid sh p) (Some (decoded p)) None → encoded x ≡ p → values' ≡ set values i x → Filling values' (i + 1) (at + (4 + size))
+    filling_decoded values' size p x len es ep e back is =
+        let fine : valid sh p ≡ true = ap (valid sh) ep ∙ filling_valid in
         let some : Some x ≡ Some (decoded p) = e ∙ cond-true (valid sh p) (Some (decoded p)) None fine in
         let same : x ≡ decoded p = cc in
-        rw is (filling-more size x len es (same ∙ ap decoded ep) (back ∙ ep))
+        rw is (filling_more size x len es (same ∙ ap decoded ep) (back ∙ ep))
 
-    pub filling-undecoded : (p : List ℕ) → p ≡ payload_of (drop at left) → None ≡ cond (valid sh p) (Some (decoded p)) None → ⊥
-    filling-undecoded p ep e =
-        let fine : valid sh p ≡ true = ap (valid sh) ep ∙ filling-valid in
+    pub filling_undecoded : (p : List ℕ) → p ≡ payload_of (drop at left) → None ≡ cond (valid sh p) (Some (decoded p)) None → ⊥
+    filling_undecoded p ep e =
+        let fine : valid sh p ≡ true = ap (valid sh) ep ∙ filling_valid in
         let some : None ≡ Some (decoded p) = e ∙ cond-true (valid sh p) (Some (decoded p)) None fine in
         let z : ◌≡◌ {A = ℕ} 0 1 = cc in
         omega arith

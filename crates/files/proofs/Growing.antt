@@ -181,8 +181,8 @@ module _ (sh : Shape) (room : Counts) where
   counts_grown LinkRecord b left = ap (λ n. record { entries = length b.payloads; links = n }) (sym (length_push b.links (link_of (payload_of left))))
 
   module _ (bytes : List ℕ) (at : ℕ) (read : Counts) (small : Bytes bytes) (f : RecordKind) (g : Going bytes at read) (kind : kind_of (drop at bytes) ≡ number_of f) (p : Passed sh room (Some read) (drop at bytes)) where
-    pub going-within : at + (4 + size_of (drop at bytes)) ≤ length bytes
-    going-within = omega (arith, p.whole, length-drop at bytes)
+    pub going_within : at + (4 + size_of (drop at bytes)) ≤ length bytes
+    going_within = omega (arith, p.whole, length-drop at bytes)
 
     pub going_more : Going bytes (at + (4 + size_of (drop at bytes))) (counted f read)
     going_more =
@@ -211,12 +211,12 @@ module _ (sh : Shape) (room : Counts) where
         let told : Told r (drop at bytes) = subst (Told r) (take_rest bytes at) h.1 in
         let p = passed sh room (Some read) at (drop at bytes) passes in
         record {
-          within = omega (arith, going-within bytes at read small r.kind g told.0 p, told.1);
+          within = omega (arith, going_within bytes at read small r.kind g told.0 p, told.1);
           going = subst (λ n. Going bytes (at + (4 + n)) (counted r.kind read)) (sym told.1) (going_more bytes at read small r.kind g told.0 p);
         }
 
-    pub going-refused : (x : Refusal) → at < length bytes → first_refusal (rows sh room (Some read) at (from bytes at)) ≡ Some x → Refused sh room bytes x
-    going-refused x h e =
+    pub going_refused : (x : Refusal) → at < length bytes → first_refusal (rows sh room (Some read) at (from bytes at)) ≡ Some x → Refused sh room bytes x
+    going_refused x h e =
         let left = drop at bytes in
         let first : first_refusal (rows sh room (Some read) at left) ≡ Some x = subst (λ t. first_refusal (rows sh room (Some read) at t) ≡ Some x) (take_rest bytes at) e in
         record {

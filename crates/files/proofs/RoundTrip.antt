@@ -66,14 +66,14 @@ module _ {V : Type 0} (sh : Shape) (encoded : V → List ℕ) where
   write_none es ls room fine h = cond-false _ _ _ (not_from_true _ fine) ∙ cond-false _ _ _ (le-ltb room _ h)
 
   module _ (es : List V) (ls : List Link) (fine : true ≡ writable (length es) ls) where
-    pub put-fits : All (λ p. valid sh p ≡ true) (map encoded es) → Fits sh most (raw_book encoded es ls)
-    put-fits values =
+    pub put_fits : All (λ p. valid sh p ≡ true) (map encoded es) → Fits sh most (raw_book encoded es ls)
+    put_fits values =
         let n : length (map encoded es) ≡ length es = length-map es encoded in
         let p = writable_parts (length es) ls (sym fine) in
         record { entries = rw n p.few; links = p.some; values = values; joins = subst (λ k. All (λ l. sound k l ≡ true) ls) (sym n) p.fine }
 
-    pub put-book : (out h e l : List ℕ) (size : ℕ) → h ≡ framed head_kind (two_bytes sh.number) → e ≡ entry_bytes encoded es → l ≡ links_bytes ls → size ≡ length (entry_bytes encoded es) → 6 + size + 7 * length ls ≤ length out → Put sh encoded es ls out (put_mid (6 + size) (6 + size + 7 * length ls - (6 + size)) (put_mid 6 (6 + size - 6) (h ++ drop 6 out) e) l) (6 + size + 7 * length ls)
-    put-book out h e l size eh ee el es-size room =
+    pub put_book : (out h e l : List ℕ) (size : ℕ) → h ≡ framed head_kind (two_bytes sh.number) → e ≡ entry_bytes encoded es → l ≡ links_bytes ls → size ≡ length (entry_bytes encoded es) → 6 + size + 7 * length ls ≤ length out → Put sh encoded es ls out (put_mid (6 + size) (6 + size + 7 * length ls - (6 + size)) (put_mid 6 (6 + size - 6) (h ++ drop 6 out) e) l) (6 + size + 7 * length ls)
+    put_book out h e l size eh ee el es-size room =
         let hn : length h ≡ 6 = ap length eh in
         let en : length e ≡ size = ap length ee ∙ sym es-size in
         let ln : length l ≡ 7 * length ls = ap length el ∙ links_length ls in

@@ -31,8 +31,8 @@ module _ {V : Type 0} (sh : Shape) (encoded : V → List ℕ) where
     pub fits : Fits sh (room_of values links) (raw_book encoded (take n.entries values') (take n.links links'))
     pub counts : n ≡ counts_of (raw_book encoded (take n.entries values') (take n.links links'))
     pub stored : take n.entries values' ≡ map decoded (map encoded (take n.entries values'))
-    pub other-values : drop n.entries values' ≡ drop n.entries values
-    pub other-links : drop n.links links' ≡ drop n.links links
+    pub other_values : drop n.entries values' ≡ drop n.entries values
+    pub other_links : drop n.links links' ≡ drop n.links links
 
   -- a reading, by the buffers as they were and as they are, and the answer; a refused one leaves them as they were
   abbrev pub ReadBook : (List ℕ → V) → List ℕ → List V → List V → List Link → List Link → Result Counts Refusal → Type 0

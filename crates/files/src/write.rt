@@ -14,7 +14,7 @@ use kinds::kind::{Kind, Payload};
 use refusals::Refusal;
 
 // Whether every link stands among so many entries.
-fn all_sound_lem(links: &[Link], entries: usize) -> bool
+fn all_sound(links: &[Link], entries: usize) -> bool
     ensures { result ≡ all_sound entries links.now }
 {
     for link in links {
@@ -29,7 +29,7 @@ fn all_sound_lem(links: &[Link], entries: usize) -> bool
 fn is_writable(entries: usize, links: &[Link]) -> bool
     ensures { result ≡ writable entries links.now }
 {
-    entries <= MOST_ENTRIES && links.len() <= MOST_LINKS && all_sound_lem(links, entries)
+    entries <= MOST_ENTRIES && links.len() <= MOST_LINKS && all_sound(links, entries)
 }
 
 // How many bytes the records of the entries take.

@@ -54,14 +54,14 @@ module _ (days : List SheetDay) (place : ℕ) where
         ∙ threes_at (places_of days) (λ i. refl) 0 (length days) (place / 3) r None hr known.0
         ∙ ap (λ i. get_or (places_of days i) r None) (omega arith)
 
-    pub place-day : (o : Option Link) → place % 3 ≡ 0 → o ≡ later (length days) (place / 3) 100 1 → o ≡ link_at (sheet_graph days) place
-    place-day o er e = e ∙ sym (place_is 0 er (omega arith))
+    pub place_day : (o : Option Link) → place % 3 ≡ 0 → o ≡ later (length days) (place / 3) 100 1 → o ≡ link_at (sheet_graph days) place
+    place_day o er e = e ∙ sym (place_is 0 er (omega arith))
 
-    pub place-week : (o : Option Link) → place % 3 ≡ 1 → o ≡ later (length days) (place / 3) 119 7 → o ≡ link_at (sheet_graph days) place
-    place-week o er e = e ∙ sym (place_is 1 er (omega arith))
+    pub place_week : (o : Option Link) → place % 3 ≡ 1 → o ≡ later (length days) (place / 3) 119 7 → o ≡ link_at (sheet_graph days) place
+    place_week o er e = e ∙ sym (place_is 1 er (omega arith))
 
-    pub place-month : (o : Option Link) → (place % 3 ≡ 0 → ⊥) → (place % 3 ≡ 1 → ⊥) → o ≡ option_map (link_to (place / 3) 109) (entry_of days (day.0 + 1, day.1)) → o ≡ link_at (sheet_graph days) place
-    place-month o ne-zero ne-one e =
+    pub place_month : (o : Option Link) → (place % 3 ≡ 0 → ⊥) → (place % 3 ≡ 1 → ⊥) → o ≡ option_map (link_to (place / 3) 109) (entry_of days (day.0 + 1, day.1)) → o ≡ link_at (sheet_graph days) place
+    place_month o ne-zero ne-one e =
         e ∙ ap (λ x. option_map (link_to (place / 3) 109) (entry_of days (x.0 + 1, x.1))) (sym known.1) ∙ sym (place_is 2 (omega (arith, ne-zero, ne-one)) (omega arith))
 
 -- sameness of two days of a sheet

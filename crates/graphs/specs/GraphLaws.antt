@@ -37,39 +37,39 @@ module _ {V : Type 0} (alike : V → V → Bool) where
     same_refl (x ∷ xs) zero h = reflexive x
     same_refl (x ∷ xs) (suc u) h = same_refl xs u (omega arith)
 
-    same-sym : (a b : Option V) → both_same alike a b ≡ true → both_same alike b a ≡ true
-    same-sym None b e = absurd (false≢true e)
-    same-sym (Some x) None e = absurd (false≢true e)
-    same-sym (Some x) (Some y) e = symmetric x y e
+    same_sym : (a b : Option V) → both_same alike a b ≡ true → both_same alike b a ≡ true
+    same_sym None b e = absurd (false≢true e)
+    same_sym (Some x) None e = absurd (false≢true e)
+    same_sym (Some x) (Some y) e = symmetric x y e
 
-    same-trans : (a b c : Option V) → both_same alike a b ≡ true → both_same alike b c ≡ true → both_same alike a c ≡ true
-    same-trans None b c e f = absurd (false≢true e)
-    same-trans (Some x) None c e f = absurd (false≢true e)
-    same-trans (Some x) (Some y) None e f = absurd (false≢true f)
-    same-trans (Some x) (Some y) (Some z) e f = transitive x y z e f
+    same_trans : (a b c : Option V) → both_same alike a b ≡ true → both_same alike b c ≡ true → both_same alike a c ≡ true
+    same_trans None b c e f = absurd (false≢true e)
+    same_trans (Some x) None c e f = absurd (false≢true e)
+    same_trans (Some x) (Some y) None e f = absurd (false≢true f)
+    same_trans (Some x) (Some y) (Some z) e f = transitive x y z e f
 
     -- values under a lawful sameness, and places that hold sound links
-    pub valued-lawful : (xs : List V) (places : List (Option Link)) → ((k : ℕ) (l : Link) → slice_index_or places k None ≡ Some l → sound (length xs) l ≡ true) → Lawful (valued alike xs places)
-    valued-lawful xs places links = record {
+    pub valued_lawful : (xs : List V) (places : List (Option Link)) → ((k : ℕ) (l : Link) → slice_index_or places k None ≡ Some l → sound (length xs) l ≡ true) → Lawful (valued alike xs places)
+    valued_lawful xs places links = record {
       reflexive = same_refl xs;
-      symmetric = λ u v. same-sym (value_at xs u) (value_at xs v);
-      transitive = λ u v w. same-trans (value_at xs u) (value_at xs v) (value_at xs w);
+      symmetric = λ u v. same_sym (value_at xs u) (value_at xs v);
+      transitive = λ u v w. same_trans (value_at xs u) (value_at xs v) (value_at xs w);
       outside_left = past_left xs;
       outside_right = past_right xs;
       links = links;
     }
 
-    read-sound : (n : ℕ) (m l : Link) (b : Bool) → sound n m ≡ b → cond b (Some m) None ≡ Some l → sound n l ≡ true
-    read-sound n m l true s e = let same : m ≡ l = cc in ap (sound n) (sym same) ∙ s
-    read-sound n m l false s e = let z : ◌≡◌ {A = ℕ} 0 1 = cc in absurd (omega arith)
+    read_sound : (n : ℕ) (m l : Link) (b : Bool) → sound n m ≡ b → cond b (Some m) None ≡ Some l → sound n l ≡ true
+    read_sound n m l true s e = let same : m ≡ l = cc in ap (sound n) (sym same) ∙ s
+    read_sound n m l false s e = let z : ◌≡◌ {A = ℕ} 0 1 = cc in absurd (omega arith)
 
-    reads-sound : (n : ℕ) (ls : List Link) (k : ℕ) (l : Link) → slice_index_or (map (read_among n) ls) k None ≡ Some l → sound n l ≡ true
-    reads-sound n [] k l e = let z : ◌≡◌ {A = ℕ} 0 1 = cc in absurd (omega arith)
-    reads-sound n (m ∷ ls) zero l e = read-sound n m l (sound n m) refl e
-    reads-sound n (m ∷ ls) (suc k) l e = reads-sound n ls k l e
+    reads_sound : (n : ℕ) (ls : List Link) (k : ℕ) (l : Link) → slice_index_or (map (read_among n) ls) k None ≡ Some l → sound n l ≡ true
+    reads_sound n [] k l e = let z : ◌≡◌ {A = ℕ} 0 1 = cc in absurd (omega arith)
+    reads_sound n (m ∷ ls) zero l e = read_sound n m l (sound n m) refl e
+    reads_sound n (m ∷ ls) (suc k) l e = reads_sound n ls k l e
 
-    pub book-lawful : (xs : List V) (ls : List Link) → Lawful (book_of alike xs ls)
-    book-lawful xs ls = valued-lawful xs (map (read_among (length xs)) ls) (reads-sound (length xs) ls)
+    pub book_lawful : (xs : List V) (ls : List Link) → Lawful (book_of alike xs ls)
+    book_lawful xs ls = valued_lawful xs (map (read_among (length xs)) ls) (reads_sound (length xs) ls)
 
 -- a place of a list that was changed place by place
 pub place_map : (f : Option Link → Option Link) (xs : List (Option Link)) (k : ℕ) → f None ≡ None → slice_index_or (map f xs) k None ≡ f (slice_index_or xs k None)

@@ -7,7 +7,7 @@ use Rattle.std.proofs.lemmas.Bool.{and_from, eqb-true, eq-eqb, ltb-true, lt-ltb}
 use Rattle.std.specs.List.{range_with_len, flat_map, AllByRecursion as All}
 use Rattle.std.specs.Option.{option_map}
 use Rattle.graphs.specs.declared.link.Link.{Link}
-use Rattle.graphs.specs.GraphLaws.{valued-lawful}
+use Rattle.graphs.specs.GraphLaws.{valued_lawful}
 use Rattle.graphs.specs.Graphs.{Lawful}
 use Rattle.graphs.specs.Links.{sound}
 use Rattle.graphs.specs.Sheets.{SheetDay, entry_of, link_to, later, places_of, sheet_graph}
@@ -73,5 +73,5 @@ sheet_lawful days =
     let places = flat_map (places_of days) (range_with_len 0 (length days)) in
     let n : length values ≡ length days = length-map days (λ day. day.1) in
     let standing = all_counted (Standing (length days)) (places_of days) 0 (length days) (λ i e. places_standing days i (omega arith)) in
-    valued-lawful nat_eq eqb_reflexive eqb_symmetric eqb_transitive values places
+    valued_lawful nat_eq eqb_reflexive eqb_symmetric eqb_transitive values places
     (λ k l e. subst (λ m. sound m l ≡ true) (sym n) (all_at (Standing (length days)) places k None (standing_none (length days)) standing l e))

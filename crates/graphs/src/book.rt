@@ -1,7 +1,7 @@
 // Books that lie in memory.
 ghost use Rattle.std.specs.Prelude.{◌≡◌, ℕ};
 ghost use Rattle.graphs.specs.Books.{book_of};
-ghost use Rattle.graphs.specs.GraphLaws.{book-lawful};
+ghost use Rattle.graphs.specs.GraphLaws.{book_lawful};
 
 use crate::link::Link;
 use crate::source::Source;
@@ -17,7 +17,7 @@ pub struct Book<'a, K: Kind> {
 impl<'a, K: Kind> Source for Book<'a, K> {
     ghost graph = { λ b. book_of K.Kind.alike b.values.now b.links.now };
 
-    ghost lawful = { λ b. book-lawful K.Kind.alike K.Kind.reflexive K.Kind.symmetric K.Kind.transitive b.values.now b.links.now };
+    ghost lawful = { λ b. book_lawful K.Kind.alike K.Kind.reflexive K.Kind.symmetric K.Kind.transitive b.values.now b.links.now };
 
     fn entries(&self) -> usize {
         self.values.len()

@@ -49,7 +49,7 @@ pub marked_more : (g : Graph) (p a out n : ℕ) (t₀ t : List ℕ) (l : Link) �
 marked_more g p a out n t₀ t l at letter hs ht room m = record {
   kept = simp length-set m.kept;
   before = λ i h. get_or-set_other t place i 1 0 (λ q. omega arith) ∙ m.before i h;
-  marks = λ u v hu hv. by-cell u v hu hv (cases_eq (u * n + v) (l.from * n + l.to));
+  marks = λ u v hu hv. by_cell u v hu hv (cases_eq (u * n + v) (l.from * n + l.to));
   behind = λ i h. get_or-set_other t place i 1 0 (λ q. omega (arith, in_block)) ∙ m.behind i h;
 }
   where
@@ -59,13 +59,13 @@ marked_more g p a out n t₀ t l at letter hs ht room m = record {
     in_block : l.from * n + l.to < n * n
     in_block = mul-add-lt l.from n l.to n hs ht
 
-    by-cell : (u v : ℕ) → u < n → v < n → (u * n + v ≡ l.from * n + l.to) ⊎ (u * n + v ≡ l.from * n + l.to → ⊥) → Mark g (p + 1) u a v (cell (set t (out + (l.from * n + l.to)) 1) out n u v)
-    by-cell u v hu hv (inl e) =
+    by_cell : (u v : ℕ) → u < n → v < n → (u * n + v ≡ l.from * n + l.to) ⊎ (u * n + v ≡ l.from * n + l.to → ⊥) → Mark g (p + 1) u a v (cell (set t (out + (l.from * n + l.to)) 1) out n u v)
+    by_cell u v hu hv (inl e) =
         let eu = same_row n u v l.from l.to hv ht e in
         let ev = same_column n u v l.from l.to hv ht e in
         let is : l ≡ link u a v = rw (eu, ev, ← letter) in
         inl ((p, omega arith, at ∙ ap Some is), ap (λ i. get_or (set t (out + (l.from * n + l.to)) 1) (out + i) 0) e ∙ get_or-set_same t (out + (l.from * n + l.to)) 1 0 (omega (arith, in_block)))
-    by-cell u v hu hv (inr ne) =
+    by_cell u v hu hv (inr ne) =
         let other : link_at g p ≡ Some (link u a v) → ⊥ = λ h. ne (let q : l ≡ link u a v = cc (at, h) in ap (λ x. x.from * n + x.to) (sym q)) in
         subst (Mark g (p + 1) u a v) (sym (get_or-set_other t (out + (l.from * n + l.to)) (out + (u * n + v)) 1 0 (λ q. ne (omega arith)))) (mark_passed g p u a v _ other (m.marks u v hu hv))
 

@@ -107,9 +107,9 @@ joined_none left right out n t t₁ w = rows_same out n (joined_to t₁ left rig
 pub joined_all : (left right out n : ℕ) (t t₁ t₂ : List ℕ) → left + n * n ≤ out → right + n * n ≤ out → Wrote out (n * n) (λ _. none) t t₁ → Rows out n n (joined_to t₁ left right n n) t₁ t₂ → Rows out n n (joined_to t left right n n) t t₂
 joined_all left right out n t t₁ t₂ hl hr w r =
     rows_as out n n (joined_to t₁ left right n n) (joined_to t left right n n) t t₂
-    (λ u v p q. least-same n _ _ (λ m h. ap₂ sat_add (w.before (left + (u * n + m)) (omega (arith, row_end u n n p))) (w.before (right + (m * n + v)) (omega (arith, row_end m n n h)))))
+    (λ u v p q. least_same n _ _ (λ m h. ap₂ sat_add (w.before (left + (u * n + m)) (omega (arith, row_end u n n p))) (w.before (right + (m * n + v)) (omega (arith, row_end m n n h)))))
     (rows_again out n (λ u v. none) (joined_to t₁ left right n n) t t₁ t₂ (rows_of out n (λ _. none) t t₁ w) r)
   where
-    least-same : (n : ℕ) (f g : ℕ → ℕ) → ((m : ℕ) → m < n → f m ≡ g m) → least_below n f ≡ least_below n g
-    least-same zero f g h = refl
-    least-same (suc n) f g h = ap₂ min (least-same n f g (λ m lt. h m (omega arith))) (h n (omega arith))
+    least_same : (n : ℕ) (f g : ℕ → ℕ) → ((m : ℕ) → m < n → f m ≡ g m) → least_below n f ≡ least_below n g
+    least_same zero f g h = refl
+    least_same (suc n) f g h = ap₂ min (least_same n f g (λ m lt. h m (omega arith))) (h n (omega arith))

@@ -94,10 +94,10 @@ zero_row out n u t₀ t lt room r =
     rows_more out n u (λ u v. cond (eqb u v) 0 (cell t₀ out n u v)) (λ v. cond (eqb u v) 0 (get_or t (out + u * n + v) 0)) t₀ t (set t (out + (u * n + u)) 0)
     (λ v h. ap (λ x. cond (eqb u v) 0 x) (r.behind (out + u * n + v) (omega arith) ∙ ap (λ j. get_or t₀ j 0) (omega arith)))
     r
-    (subst (λ j. Wrote (out + u * n) n (λ v. cond (eqb u v) 0 (get_or t (out + u * n + v) 0)) t (set t j 0)) (sym at) (one-zero (out + u * n) n u t lt (omega arith)))
+    (subst (λ j. Wrote (out + u * n) n (λ v. cond (eqb u v) 0 (get_or t (out + u * n + v) 0)) t (set t j 0)) (sym at) (one_zero (out + u * n) n u t lt (omega arith)))
   where
-    one-zero : (start n u : ℕ) (t : List ℕ) → u < n → start + n ≤ length t → Wrote start n (λ v. cond (eqb u v) 0 (get_or t (start + v) 0)) t (set t (start + u) 0)
-    one-zero start n u t lt room = record {
+    one_zero : (start n u : ℕ) (t : List ℕ) → u < n → start + n ≤ length t → Wrote start n (λ v. cond (eqb u v) 0 (get_or t (start + v) 0)) t (set t (start + u) 0)
+    one_zero start n u t lt room = record {
       kept = length-set t (start + u) 0;
       before = λ i h. let ne : i ≢ start + u = omega arith in get_or-set_other t (start + u) i 0 0 ne;
       cells = λ v h. by_place v (cases_eq u v);

@@ -3,4 +3,4 @@ use Rattle.files.proofs.Filling.{Filling}
 use Rattle.files.proofs.fill.fill_entries.Given as goal
 
 abbrev pub invariant-loop-i : goal.invariant-loop-i
-invariant-loop-i g l = Filling g.Payload.Payload.shape g.Payload.Payload.encoded g.Payload.Payload.decoded (length l.initial.entries) l.left l.entries l.i l.at
+invariant-loop-i g l = Filling g.K.Payload.Payload.shape g.K.Payload.Payload.encoded g.K.Payload.Payload.decoded (length l.initial.entries) l.left l.entries l.i l.at

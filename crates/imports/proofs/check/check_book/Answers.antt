@@ -5,5 +5,5 @@ use Rattle.std.proofs.lemmas.Bool.Decides.{Decides-eqb}
 
 pub returns : goal.returns
 returns g c =
-    passed g.Payload.Payload.shape g.Payload.Payload.encoded g.Payload.Payload.decoded c.args.file.now c.args.entries.now c.read-book.new.entries c.args.links.now c.read-book.new.links c.in-ok-read.read c.args.again.now c.write-book.new.out c.in-ok-size.size c.eq.result
+    passed g.K.Payload.Payload.shape g.K.Payload.Payload.encoded g.K.Payload.Payload.decoded c.args.file.now c.args.entries.now c.read-book.new.entries c.args.links.now c.read-book.new.links c.in-ok-read.read c.args.again.now c.write-book.new.out c.in-ok-size.size c.eq.result
     c.in-ok-read.ensures.read c.in-ok-read.ensures.again c.requires c.in-ok-size.ensures.written (slice_eq-Decides Decides-eqb _ _ _ c.eq.ensures)
