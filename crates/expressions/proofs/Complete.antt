@@ -1,9 +1,9 @@
 -- The machine reads every expression.
-use Rattle.std.proofs.Common.{◌≡◌, ℕ, ◌+◌, ◌<◌, ◌≤◌, List, [], ◌∷◌, ◌++◌, length, sym, refl, ap, ◌∙◌, subst, append_assoc, append-nil, arith, length-append}
-use mathlib.Core.Option.{Option, none, some}
+use Rattle.std.proofs.Common.{◌≡◌, ℕ, ◌+◌, ◌≤◌, List, [], ◌∷◌, ◌++◌, length, sym, refl, ap, ◌∙◌, append_assoc, append-nil, arith, length-append}
+use Rattle.std.proofs.Math.Option.{Option, none, some}
 use Rattle.expressions.specs.Exprs.{Expr, epsilon, letter, either, join}
-use Rattle.expressions.specs.Grammar.{Sign, byte, signed, Expression, a-run, or-run, Run, an_item, and_item, Item, an-atom, with-sign, Atom, a-letter, a-nought, in-brackets}
-use Rattle.expressions.specs.Machine.{Class, class, letter_byte, nought_byte, opening_byte, closing_byte, bar_byte, sign_byte, other_byte, Frame, State, expect, after, joined, total, step, go, Answer, good, bad, finish, start, begin, extend}
+use Rattle.expressions.specs.Grammar.{Sign, byte, signed, Expression, a_run, or_run, Run, an_item, and_item, Item, an_atom, with_sign, Atom, a_letter, a_nought, in_brackets}
+use Rattle.expressions.specs.Machine.{Frame, State, expect, after, joined, total, step, go, good, bad, start}
 use Rattle.expressions.proofs.Classes.{class_byte, class_letter}
 
 pub go_some : (s s' : State) (c : ℕ) (t : List ℕ) (n : ℕ) → step s c ≡ some s' → go s (c ∷ t) n ≡ go s' t (n + 1)
@@ -100,22 +100,22 @@ atom_swap :
     {u : List ℕ} {f : Expr} → Atom u f → (σ : List Frame) (alt run : Option Expr) (i : Expr) (rest : List ℕ) (m : ℕ)
     → go (after σ alt run i) (u ++ rest) m ≡ go (expect σ alt (some (joined run i))) (u ++ rest) m
 unfolding step go
-atom_swap (a-letter {c} h k) σ alt run i rest m =
+atom_swap (a_letter {c} h k) σ alt run i rest m =
     go_some (after σ alt run i) (after σ alt (some (joined run i)) (letter c)) c rest m (rw (class_letter c h k))
     ∙ sym (go_some (expect σ alt (some (joined run i))) (after σ alt (some (joined run i)) (letter c)) c rest m (rw (class_letter c h k)))
-atom_swap a-nought σ alt run i rest m = refl
-atom_swap (in-brackets x) σ alt run i rest m = refl
+atom_swap a_nought σ alt run i rest m = refl
+atom_swap (in_brackets x) σ alt run i rest m = refl
 
 item_swap :
     {u : List ℕ} {f : Expr} → Item u f → (σ : List Frame) (alt run : Option Expr) (i : Expr) (rest : List ℕ) (m : ℕ)
     → go (after σ alt run i) (u ++ rest) m ≡ go (expect σ alt (some (joined run i))) (u ++ rest) m
-item_swap (an-atom a) σ alt run i rest m = atom_swap a σ alt run i rest m
-item_swap (with-sign {t} x s) σ alt run i rest m = rw append_assoc (item_swap x σ alt run i (byte s ∷ rest) m)
+item_swap (an_atom a) σ alt run i rest m = atom_swap a σ alt run i rest m
+item_swap (with_sign {t} x s) σ alt run i rest m = rw append_assoc (item_swap x σ alt run i (byte s ∷ rest) m)
 
 mutual
   pub expression_go : {t : List ℕ} {e : Expr} → Expression t e → (σ : List Frame) (rest : List ℕ) (n : ℕ) → RanE σ t e rest n
-  expression_go (a-run r) σ rest n = let x = run_go r σ none rest n in (none, x.0, x.1, x.2, x.3)
-  expression_go (or-run {t} {u} {e} {f} x r) σ rest n =
+  expression_go (a_run r) σ rest n = let x = run_go r σ none rest n in (none, x.0, x.1, x.2, x.3)
+  expression_go (or_run {t} {u} {e} {f} x r) σ rest n =
       or_step σ t u e f rest n (expression_go x σ (124 ∷ (u ++ rest)) n) (λ alt m. run_go r σ alt rest m)
 
   pub run_go : {t : List ℕ} {e : Expr} → Run t e → (σ : List Frame) (alt : Option Expr) (rest : List ℕ) (n : ℕ) → RanR σ alt t e rest n
@@ -124,13 +124,13 @@ mutual
       and_step σ alt t u e f rest n (run_go r σ alt (u ++ rest) n) (λ run j m. item_swap i σ alt run j rest m) (λ run m. item_go i σ alt run rest m)
 
   pub item_go : {t : List ℕ} {e : Expr} → Item t e → (σ : List Frame) (alt run : Option Expr) (rest : List ℕ) (n : ℕ) → RanI σ alt run t e rest n
-  item_go (an-atom a) σ alt run rest n = atom_go a σ alt run rest n
-  item_go (with-sign {t} {e} i s) σ alt run rest n = sign_step σ alt run t e s rest n (item_go i σ alt run (byte s ∷ rest) n)
+  item_go (an_atom a) σ alt run rest n = atom_go a σ alt run rest n
+  item_go (with_sign {t} {e} i s) σ alt run rest n = sign_step σ alt run t e s rest n (item_go i σ alt run (byte s ∷ rest) n)
 
   pub atom_go : {t : List ℕ} {e : Expr} → Atom t e → (σ : List Frame) (alt run : Option Expr) (rest : List ℕ) (n : ℕ) → RanI σ alt run t e rest n
-  atom_go (a-letter {c} h k) σ alt run rest n = letter_step σ alt run c h k rest n
-  atom_go a-nought σ alt run rest n = nought_step σ alt run rest n
-  atom_go (in-brackets {t} {e} x) σ alt run rest n = bracket_step σ alt run t e rest n (expression_go x (record { alt = alt; run = run } ∷ σ) (41 ∷ rest) (n + 1))
+  atom_go (a_letter {c} h k) σ alt run rest n = letter_step σ alt run c h k rest n
+  atom_go a_nought σ alt run rest n = nought_step σ alt run rest n
+  atom_go (in_brackets {t} {e} x) σ alt run rest n = bracket_step σ alt run t e rest n (expression_go x (record { alt = alt; run = run } ∷ σ) (41 ∷ rest) (n + 1))
 
 -- of a whole text
 pub complete : (t : List ℕ) (e : Expr) → Expression t e → go start t 0 ≡ good e

@@ -1,16 +1,16 @@
 -- The answer to a wording comes wherever it is due. Assumes nothing.
-use Rattle.std.proofs.Common.{◌≡◌, ℕ, ◌-◌, ◌<◌, ◌≤◌, true, ◌⊎◌, List, [], length, get_or, take, Ok, Err, Result, sym, refl, ap, ◌∙◌, subst, inl, inr, arith, length-take}
+use Rattle.std.proofs.Common.{◌≡◌, ℕ, ◌-◌, ◌<◌, ◌≤◌, true, ◌⊎◌, List, length, take, Ok, Err, Result, sym, refl, ap, ◌∙◌, subst, inl, inr, arith, length-take}
 use Rattle.std.proofs.lemmas.List.{ext_get_or, get_or-take}
 use Rattle.std.proofs.lemmas.Bool.{cases_lt}
 use Rattle.refusals.specs.declared.Refusal.{Refusal}
-use Rattle.refusals.specs.declared.Refusal.TheVariants.{WordingTooLong, NotAnExpression, TooManyParts}
+use Rattle.refusals.specs.declared.Refusal.TheVariants.{NotAnExpression, TooManyParts}
 use Rattle.expressions.specs.declared.part.Part.TheVariants.{Epsilon}
 use Rattle.expressions.specs.declared.part.Parts.{Parts}
 use Rattle.expressions.specs.Exprs.{Expr, size}
 use Rattle.expressions.specs.Grammar.{most_bytes, most_parts, Expression}
 use Rattle.expressions.specs.Numbering.{parts_from, part_expr, well_formed, Stored}
 use Rattle.expressions.specs.Reads.{Kept}
-use Rattle.expressions.specs.Wordings.{Means, Begins, Fails, Accepted, Refused, too_long, no_expression, too_many_parts, Parsed, Decided}
+use Rattle.expressions.specs.Wordings.{Fails, Accepted, Refused, too_long, no_expression, too_many_parts, Parsed, Decided}
 use Rattle.expressions.proofs.Numbered.{length-parts, decodes, formed_parts}
 use Rattle.expressions.proofs.Whole.{Whole}
 

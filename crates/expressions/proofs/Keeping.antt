@@ -1,15 +1,15 @@
 -- Parts that come one after the other, and are kept as far as there is room. Assumes nothing.
-use Rattle.std.proofs.Common.{◌≡◌, ℕ, ◌+◌, ◌-◌, ◌<◌, ◌≤◌, ◌≢◌, ◌⊎◌, List, [], ◌∷◌, ◌++◌, length, get_or, set, sym, refl, ap, ◌∙◌, subst, inl, inr, append_assoc, arith, length-append, length-set, get_or-set_other, get_or-set_same}
+use Rattle.std.proofs.Common.{◌≡◌, ℕ, ◌+◌, ◌-◌, ◌<◌, ◌≤◌, ◌≢◌, ◌⊎◌, List, [], ◌∷◌, ◌++◌, length, get_or, set, sym, ap, ◌∙◌, subst, inl, inr, append_assoc, arith, length-append, length-set, get_or-set_other, get_or-set_same}
 use Rattle.std.proofs.lemmas.List.{get_or_append_left, get_or_push}
 use Rattle.std.proofs.lemmas.Bool.{cases_lt}
 use Rattle.expressions.specs.declared.part.Part.{Part}
-use Rattle.expressions.specs.declared.part.Part.TheVariants.{Epsilon, Either, Join}
+use Rattle.expressions.specs.declared.part.Part.TheVariants.{Epsilon}
 use Rattle.expressions.specs.declared.part.Parts.{Parts}
-use Rattle.expressions.specs.Exprs.{Expr, either, join, size}
+use Rattle.expressions.specs.Exprs.{Expr, size}
 use Rattle.expressions.specs.Grammar.{Sign, signed, most_parts}
 use Rattle.expressions.specs.Numbering.{parts_from}
 use Rattle.expressions.specs.Reads.{Kept, Pushed, Grows}
-use Rattle.expressions.proofs.Numbered.{length-parts, part, parts_sign, parts_either, parts_join}
+use Rattle.expressions.proofs.Numbered.{length-parts, part, parts_sign}
 
 -- the new element of P ++ (x ∷ []), and the others
 kept_more :

@@ -1,9 +1,8 @@
 -- The machine's answer is right.
-use Rattle.std.proofs.Common.{◌≡◌, ℕ, zero, suc, ◌+◌, ◌-◌, ◌<◌, ◌≤◌, List, [], ◌∷◌, ◌++◌, length, take, sym, refl, ap, ◌∙◌, subst, append_assoc, append-nil, le_of_suc-le-suc, not-suc-le-zero, arith, length-append, take_at}
-use mathlib.Core.Option.{Option, none, some}
+use Rattle.std.proofs.Common.{◌≡◌, ℕ, zero, suc, ◌+◌, ◌<◌, ◌≤◌, List, [], ◌∷◌, ◌++◌, length, take, sym, refl, ap, ◌∙◌, subst, append_assoc, append-nil, le_of_suc-le-suc, not-suc-le-zero, arith, length-append, take_at}
 use Rattle.expressions.specs.Exprs.{Expr}
 use Rattle.expressions.specs.Grammar.{Expression}
-use Rattle.expressions.specs.Machine.{Frame, State, expect, after, go, Answer, good, bad, start}
+use Rattle.expressions.specs.Machine.{go, Answer, good, bad, start}
 use Rattle.expressions.specs.Wordings.{Means, Begins, Fails}
 use Rattle.expressions.proofs.Complete.{complete}
 use Rattle.expressions.proofs.Sound.{right, Right, Stuck}

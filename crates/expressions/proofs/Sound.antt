@@ -1,10 +1,10 @@
 -- What the machine has read stands for what it holds; and where it stops, nothing goes on.
-use Rattle.std.proofs.Common.{◌≡◌, ℕ, ◌+◌, ◌<◌, ◌≤◌, List, [], ◌∷◌, ◌++◌, length, sym, refl, ap, ◌∙◌, subst, append_assoc, append-nil, arith, length-append}
-use mathlib.Core.Option.{Option, none, some}
-use Rattle.expressions.specs.Exprs.{Expr, epsilon, letter, either, join}
-use Rattle.expressions.specs.Grammar.{Sign, byte, signed, Expression, a-run, or-run, Run, an_item, and_item, Item, an-atom, with-sign, Atom, a-letter, a-nought, in-brackets}
+use Rattle.std.proofs.Common.{◌≡◌, ℕ, ◌+◌, List, [], ◌∷◌, ◌++◌, length, sym, refl, ap, ◌∙◌, subst, append_assoc, append-nil, arith}
+use Rattle.std.proofs.Math.Option.{Option, none, some}
+use Rattle.expressions.specs.Exprs.{Expr, letter, either}
+use Rattle.expressions.specs.Grammar.{byte, Expression, a_run, or_run, Run, an_item, and_item, Item, an_atom, with_sign, a_letter, a_nought, in_brackets}
 use Rattle.expressions.specs.Wordings.{Begins}
-use Rattle.expressions.specs.Machine.{Class, class, letter_byte, nought_byte, opening_byte, closing_byte, bar_byte, sign_byte, other_byte, Frame, State, expect, after, joined, total, step, go, Answer, good, bad, finish, start, begin, extend, close}
+use Rattle.expressions.specs.Machine.{Class, class, letter_byte, nought_byte, opening_byte, closing_byte, bar_byte, sign_byte, other_byte, Frame, State, expect, after, joined, total, step, go, Answer, good, bad, finish, begin, extend, close}
 use Rattle.expressions.proofs.Classes.{Means, means}
 use Rattle.expressions.proofs.Complete.{go_some, go_none}
 
@@ -31,9 +31,9 @@ run_of none r s i e x = subst (λ w. Run (w ++ s) i) (sym e) (an_item x)
 run_of (some y) r s i d x = and_item d x
 
 whole_of : (alt run : Option Expr) (q r s : List ℕ) (i : Expr) → Alt alt q → Rn run r → Item s i → Expression (q ++ (r ++ s)) (total alt run i)
-whole_of none run q r s i e d x = subst (λ w. Expression (w ++ (r ++ s)) (joined run i)) (sym e) (a-run (run_of run r s i d x))
+whole_of none run q r s i e d x = subst (λ w. Expression (w ++ (r ++ s)) (joined run i)) (sym e) (a_run (run_of run r s i d x))
 whole_of (some y) run q r s i e d x =
-    let z : Expression (e.0 ++ (124 ∷ (r ++ s))) (either y (joined run i)) = or-run e.2 (run_of run r s i d x) in
+    let z : Expression (e.0 ++ (124 ∷ (r ++ s))) (either y (joined run i)) = or_run e.2 (run_of run r s i d x) in
     rw (e.1, append_assoc) z
 
 abbrev pub Held : Option State → List ℕ → Type 0
@@ -44,9 +44,9 @@ begin_held :
     (σ : List Frame) (alt run : Option Expr) (c : ℕ) (k : Class) → Means c k → (p : List ℕ) → Holds (expect σ alt run) p
     → Held (begin σ alt run c k) (p ++ (c ∷ []))
 begin_held σ alt run c letter_byte m p h =
-    (h.0, h.1, h.2, c ∷ [], rw h.3 (simp append_assoc), h.4, h.5, h.6, an-atom (a-letter m.0 m.1))
+    (h.0, h.1, h.2, c ∷ [], rw h.3 (simp append_assoc), h.4, h.5, h.6, an_atom (a_letter m.0 m.1))
 begin_held σ alt run c nought_byte m p h =
-    (h.0, h.1, h.2, 48 ∷ [], rw (h.3, m) (simp append_assoc), h.4, h.5, h.6, an-atom a-nought)
+    (h.0, h.1, h.2, 48 ∷ [], rw (h.3, m) (simp append_assoc), h.4, h.5, h.6, an_atom a_nought)
 begin_held σ alt run c opening_byte m p h =
     (p ++ (c ∷ []), [], [], sym (append-nil (p ++ (c ∷ []))), (h.0, h.1, h.2, rw (h.3, m) (simp append_assoc), h.4, h.5, h.6), refl, refl)
 begin_held σ alt run c closing_byte m p h = tt
@@ -62,7 +62,7 @@ close_held :
     (σ : List Frame) (e : Expr) (a t : List ℕ) → Under σ a → Expression t e → Held (close σ e) ((a ++ t) ++ (41 ∷ []))
 close_held [] e a t u d = tt
 close_held (f ∷ σ) e a t u d =
-    (u.0, u.1, u.2, 40 ∷ (t ++ (41 ∷ [])), rw u.3 (simp append_assoc), u.4, u.5, u.6, an-atom (in-brackets d))
+    (u.0, u.1, u.2, 40 ∷ (t ++ (41 ∷ [])), rw u.3 (simp append_assoc), u.4, u.5, u.6, an_atom (in_brackets d))
 
 extend_held :
     (σ : List Frame) (alt run : Option Expr) (i : Expr) (c : ℕ) (k : Class) → Means c k → (p : List ℕ) → Holds (after σ alt run i) p
@@ -82,7 +82,7 @@ extend_held σ alt run i c bar_byte m p h = (
   refl,
 )
 extend_held σ alt run i c (sign_byte s) m p h =
-    (h.0, h.1, h.2, h.3 ++ (byte s ∷ []), rw (h.4, m) (simp append_assoc), h.5, h.6, h.7, with-sign h.8 s)
+    (h.0, h.1, h.2, h.3 ++ (byte s ∷ []), rw (h.4, m) (simp append_assoc), h.5, h.6, h.7, with_sign h.8 s)
 extend_held σ alt run i c other_byte m p h = tt
 
 step_held : (s : State) (c : ℕ) (p : List ℕ) → Holds s p → Held (step s c) (p ++ (c ∷ []))
@@ -95,13 +95,13 @@ closing : (σ : List Frame) (p : List ℕ) → Under σ p → (t : List ℕ) (e 
 closing [] p u t e d = ([], e, rw (u, append-nil) d)
 closing (f ∷ σ) p u t e d =
     let x = closing σ u.0 u.4 (u.1 ++ (u.2 ++ (40 ∷ (t ++ (41 ∷ []))))) (total f.alt f.run e)
-    (whole_of f.alt f.run u.1 u.2 (40 ∷ (t ++ (41 ∷ []))) e u.5 u.6 (an-atom (in-brackets d))) in
+    (whole_of f.alt f.run u.1 u.2 (40 ∷ (t ++ (41 ∷ []))) e u.5 u.6 (an_atom (in_brackets d))) in
     (41 ∷ x.0, x.1, rw u.3 (simp append_assoc (simp append_assoc at x.2)))
 
 viable : (s : State) (p : List ℕ) → Holds s p → Begins p
 viable (expect σ alt run) p h =
     let x = closing σ h.0 h.4 (h.1 ++ (h.2 ++ (97 ∷ []))) (total alt run (letter 97))
-    (whole_of alt run h.1 h.2 (97 ∷ []) (letter 97) h.5 h.6 (an-atom (a-letter (omega arith) (omega arith)))) in
+    (whole_of alt run h.1 h.2 (97 ∷ []) (letter 97) h.5 h.6 (an_atom (a_letter (omega arith) (omega arith)))) in
     (97 ∷ x.0, x.1, rw h.3 (simp append_assoc (simp append_assoc at x.2)))
 viable (after σ alt run i) p h =
     rw h.4 (closing σ h.0 h.5 (h.1 ++ (h.2 ++ h.3)) (total alt run i) (whole_of alt run h.1 h.2 h.3 i h.6 h.7 h.8))

@@ -1,6 +1,6 @@
 -- The reader's turns, over plain values. Assumes nothing.
-use Rattle.std.proofs.Common.{◌≡◌, ℕ, ◌+◌, ◌-◌, ◌*◌, ◌<◌, ◌≤◌, ◌⊎◌, List, [], ◌∷◌, ◌++◌, length, get_or, drop, Ok, Err, Result, sym, refl, ap, ◌∙◌, subst, inl, inr, arith, MatchResult}
-use mathlib.Core.Option.{Option, none, some}
+use Rattle.std.proofs.Common.{◌≡◌, ℕ, ◌+◌, ◌-◌, ◌*◌, ◌<◌, ◌≤◌, ◌⊎◌, List, [], ◌∷◌, length, get_or, drop, Ok, Err, Result, sym, refl, ap, ◌∙◌, subst, inl, inr, arith, MatchResult}
+use Rattle.std.proofs.Math.Option.{Option, none, some}
 use Rattle.std.proofs.lemmas.List.{drop_more, drop_all}
 use Rattle.std.proofs.lemmas.Bool.{cases_lt, cases_eq}
 use Rattle.expressions.specs.declared.part.Part.{Part}
@@ -9,8 +9,8 @@ use Rattle.expressions.specs.declared.part.Parts.{Parts}
 use Rattle.expressions.specs.declared.reader.SyntaxError.{SyntaxError}
 use Rattle.expressions.specs.Exprs.{Expr, epsilon, letter, either, join}
 use Rattle.expressions.specs.Grammar.{Sign, plus_sign, star_sign, same_sign, differ_sign, byte, signed, bar, opening, closing, nought}
-use Rattle.expressions.specs.Machine.{Class, class, letter_byte, nought_byte, opening_byte, closing_byte, bar_byte, sign_byte, other_byte, Frame, State, expect, after, joined, total, step, go, Answer, good, bad, finish, start, begin, extend, close}
-use Rattle.expressions.specs.Reads.{Kept, Pushed, Grows, At, NoSign, NoAtom, Next, SignPart, Closed, Unclosed, Moved, AtomRead, RunRead, ExpressionRead, AtomTo, ItemTo, RunTo, ExpressionTo, ItemLost, RunLost, ExpressionLost}
+use Rattle.expressions.specs.Machine.{Class, class, letter_byte, nought_byte, opening_byte, closing_byte, bar_byte, sign_byte, other_byte, Frame, State, expect, after, joined, total, step, go, good, bad, finish, begin, extend, close}
+use Rattle.expressions.specs.Reads.{Pushed, At, NoSign, NoAtom, Next, SignPart, Closed, Unclosed, AtomRead, RunRead, ExpressionRead, AtomTo, ItemTo, RunTo, ExpressionTo, ItemLost, RunLost, ExpressionLost}
 use Rattle.expressions.proofs.Classes.{Means, means, class_byte, class_letter}
 use Rattle.expressions.proofs.Complete.{go_some, go_none}
 use Rattle.expressions.proofs.Keeping.{grows_sign, grows_one, grows_two}
@@ -380,13 +380,13 @@ expression_broken t from at₀ at x b p₀ p g y lt c k =
     expression_lost t from at x b p z.0 z.1 z.2 z.3 lt c k
 
 pub starts_by : (c : ℕ) → ((c < 97) ⊎ (122 < c) → (c ≡ 48 → ⊥) → (c ≡ 40 → ⊥) → ⊥) → Starts c
-starts_by c h = by-low (cases_lt c 97) (cases_lt 122 c) (cases_eq c 48) (cases_eq c 40)
+starts_by c h = by_low (cases_lt c 97) (cases_lt 122 c) (cases_eq c 48) (cases_eq c 40)
   where
-    by-low : (c < 97) ⊎ (97 ≤ c) → (122 < c) ⊎ (c ≤ 122) → (c ≡ 48) ⊎ (c ≡ 48 → ⊥) → (c ≡ 40) ⊎ (c ≡ 40 → ⊥) → Starts c
-    by-low (inl a) b (inl e) z = inr (inl e)
-    by-low (inl a) b (inr e) (inl z) = inr (inr z)
-    by-low (inl a) b (inr e) (inr z) = absurd (h (inl a) e z)
-    by-low (inr a) (inl b) (inl e) z = inr (inl e)
-    by-low (inr a) (inl b) (inr e) (inl z) = inr (inr z)
-    by-low (inr a) (inl b) (inr e) (inr z) = absurd (h (inr b) e z)
-    by-low (inr a) (inr b) e z = inl (a, b)
+    by_low : (c < 97) ⊎ (97 ≤ c) → (122 < c) ⊎ (c ≤ 122) → (c ≡ 48) ⊎ (c ≡ 48 → ⊥) → (c ≡ 40) ⊎ (c ≡ 40 → ⊥) → Starts c
+    by_low (inl a) b (inl e) z = inr (inl e)
+    by_low (inl a) b (inr e) (inl z) = inr (inr z)
+    by_low (inl a) b (inr e) (inr z) = absurd (h (inl a) e z)
+    by_low (inr a) (inl b) (inl e) z = inr (inl e)
+    by_low (inr a) (inl b) (inr e) (inl z) = inr (inr z)
+    by_low (inr a) (inl b) (inr e) (inr z) = absurd (h (inr b) e z)
+    by_low (inr a) (inr b) e z = inl (a, b)

@@ -1,5 +1,5 @@
 -- What the reader says of a whole text. Assumes nothing.
-use Rattle.std.proofs.Common.{◌≡◌, ℕ, ◌<◌, ◌≤◌, List, [], length, ◌∙◌}
+use Rattle.std.proofs.Common.{ℕ, ◌<◌, ◌≤◌, List, [], length, ◌∙◌}
 use Rattle.expressions.specs.declared.part.Parts.{Parts}
 use Rattle.expressions.specs.Exprs.{Expr}
 use Rattle.expressions.specs.Machine.{total}

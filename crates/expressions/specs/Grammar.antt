@@ -46,8 +46,8 @@ nought = 48
 mutual
   -- an expression is one or more runs with `|` between them, which groups to the left
   pub data Expression : List ℕ → Expr → Type 0 where
-    a-run : {t : List ℕ} {e : Expr} → Run t e → Expression t e
-    or-run : {t u : List ℕ} {e f : Expr} → Expression t e → Run u f → Expression (t ++ (bar ∷ u)) (either e f)
+    a_run : {t : List ℕ} {e : Expr} → Run t e → Expression t e
+    or_run : {t u : List ℕ} {e f : Expr} → Expression t e → Run u f → Expression (t ++ (bar ∷ u)) (either e f)
 
   -- a run is one or more items side by side; joining groups to the left
   pub data Run : List ℕ → Expr → Type 0 where
@@ -56,11 +56,11 @@ mutual
 
   -- an item is an atom followed by any number of signs
   pub data Item : List ℕ → Expr → Type 0 where
-    an-atom : {t : List ℕ} {e : Expr} → Atom t e → Item t e
-    with-sign : {t : List ℕ} {e : Expr} → Item t e → (s : Sign) → Item (t ++ (byte s ∷ [])) (signed s e)
+    an_atom : {t : List ℕ} {e : Expr} → Atom t e → Item t e
+    with_sign : {t : List ℕ} {e : Expr} → Item t e → (s : Sign) → Item (t ++ (byte s ∷ [])) (signed s e)
 
   -- an atom is a letter a to z, `0`, or an expression in round brackets
   pub data Atom : List ℕ → Expr → Type 0 where
-    a-letter : {c : ℕ} → 97 ≤ c → c ≤ 122 → Atom (c ∷ []) (letter c)
-    a-nought : Atom (nought ∷ []) epsilon
-    in-brackets : {t : List ℕ} {e : Expr} → Expression t e → Atom (opening ∷ (t ++ (closing ∷ []))) e
+    a_letter : {c : ℕ} → 97 ≤ c → c ≤ 122 → Atom (c ∷ []) (letter c)
+    a_nought : Atom (nought ∷ []) epsilon
+    in_brackets : {t : List ℕ} {e : Expr} → Expression t e → Atom (opening ∷ (t ++ (closing ∷ []))) e

@@ -1,6 +1,6 @@
 -- What the functions of the reader answer, by the machine; no public contract cites this file. Assumes nothing.
-use Rattle.std.specs.Prelude.{◌≡◌, ℕ, ◌+◌, ◌*◌, ◌<◌, ◌≤◌, ◌⊎◌, List, [], ◌∷◌, ◌++◌, length, get_or, drop, ◌≢◌, slice_index, slice_index_or}
-use Rattle.std.proofs.Math.Option.{Option, none, some}
+use Rattle.std.specs.Prelude.{◌≡◌, ℕ, ◌+◌, ◌*◌, ◌<◌, ◌≤◌, ◌⊎◌, List, [], ◌∷◌, ◌++◌, length, drop, ◌≢◌, slice_index, slice_index_or}
+use Rattle.std.proofs.Math.Option.{Option, none}
 use Rattle.expressions.specs.declared.part.Part.{Part}
 use Rattle.expressions.specs.declared.part.Part.TheVariants.{Epsilon, Plus, Star, Same, Differ}
 use Rattle.expressions.specs.declared.part.Parts.{Parts}
@@ -45,7 +45,7 @@ SignPart c x = ((c ≡ 43) × (x ≡ Plus)) ⊎ (((c ≡ 42) × (x ≡ Star)) �
 -- a bracket is closed at n, or is not
 pub record Closed (t : List ℕ) (n to : ℕ) : Type 0 where
   pub there : n < length t
-  pub is : get_or t n 0 ≡ closing
+  pub is : slice_index t n ≡ closing
   pub behind : to ≡ n + 1
 
 pub record Unclosed (t : List ℕ) (n at : ℕ) : Type 0 where

@@ -23,9 +23,11 @@ fn peek(text: &[u8], at: usize) -> Option<char>
 }
 
 // Runs with `|` between them.
-#[cycle(atom_expression_item_run)]
+#[cycle(reader)]
 pub(crate) fn expression(text: &[u8], from: usize, parts: &mut Parts) -> Result<usize, SyntaxError>
-    requires { (length text.now ≤ most_bytes) × ((from ≤ length text.now) × (parts.old.count ≤ 2 * from)) }
+    requires short { length text.now ≤ most_bytes }
+    requires within { from ≤ length text.now }
+    requires room { parts.old.count ≤ 2 * from }
     ensures { MatchResult result (ExpressionTo text.now from parts.old parts.new) (λ e. ExpressionLost text.now from e.at) }
 {
     let mut at = run(text, from, parts)?;
@@ -38,9 +40,11 @@ pub(crate) fn expression(text: &[u8], from: usize, parts: &mut Parts) -> Result<
 }
 
 // Items side by side.
-#[cycle(atom_expression_item_run)]
+#[cycle(reader)]
 fn run(text: &[u8], from: usize, parts: &mut Parts) -> Result<usize, SyntaxError>
-    requires { (length text.now ≤ most_bytes) × ((from ≤ length text.now) × (parts.old.count ≤ 2 * from)) }
+    requires short { length text.now ≤ most_bytes }
+    requires within { from ≤ length text.now }
+    requires room { parts.old.count ≤ 2 * from }
     ensures { MatchResult result (RunTo text.now from parts.old parts.new) (λ e. RunLost text.now from e.at) }
 {
     let mut at = item(text, from, parts)?;
@@ -53,9 +57,11 @@ fn run(text: &[u8], from: usize, parts: &mut Parts) -> Result<usize, SyntaxError
 }
 
 // An atom, and the signs behind it.
-#[cycle(atom_expression_item_run)]
+#[cycle(reader)]
 fn item(text: &[u8], from: usize, parts: &mut Parts) -> Result<usize, SyntaxError>
-    requires { (length text.now ≤ most_bytes) × ((from ≤ length text.now) × (parts.old.count ≤ 2 * from)) }
+    requires short { length text.now ≤ most_bytes }
+    requires within { from ≤ length text.now }
+    requires room { parts.old.count ≤ 2 * from }
     ensures { MatchResult result (ItemTo text.now from parts.old parts.new) (λ e. ItemLost text.now from e.at) }
 {
     let mut at = atom(text, from, parts)?;
@@ -80,9 +86,11 @@ fn sign_at(text: &[u8], at: usize) -> Option<Part>
 }
 
 // A letter, `0`, or an expression in brackets.
-#[cycle(atom_expression_item_run)]
+#[cycle(reader)]
 fn atom(text: &[u8], from: usize, parts: &mut Parts) -> Result<usize, SyntaxError>
-    requires { (length text.now ≤ most_bytes) × ((from ≤ length text.now) × (parts.old.count ≤ 2 * from)) }
+    requires short { length text.now ≤ most_bytes }
+    requires within { from ≤ length text.now }
+    requires room { parts.old.count ≤ 2 * from }
     ensures { MatchResult result (AtomTo text.now from parts.old parts.new) (λ e. ItemLost text.now from e.at) }
 {
     match peek(text, from) {

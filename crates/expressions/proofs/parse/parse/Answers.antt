@@ -4,8 +4,8 @@ use Rattle.expressions.proofs.Judged.{decided_by, accepted, too_many}
 use Rattle.expressions.proofs.Whole.{whole, cut_short, lost}
 use Rattle.expressions.proofs.parse.parse.Goals as goal
 
-pub returns-then-text-gt-MOST-BYTES : goal.returns-then-text-gt-MOST-BYTES
-returns-then-text-gt-MOST-BYTES c = let p = too_long c.if-text-gt-MOST-BYTES.true in record { parsed = p; decided = decided_by _ _ p }
+pub returns-then-text-gt-MOST_BYTES : goal.returns-then-text-gt-MOST_BYTES
+returns-then-text-gt-MOST_BYTES c = let p = too_long c.if-text-gt-MOST_BYTES.true in record { parsed = p; decided = decided_by _ _ p }
 
 pub returns-in-Ok : goal.returns-in-Ok
 returns-in-Ok c =
@@ -14,12 +14,12 @@ returns-in-Ok c =
 
 pub returns-in-Ok-2 : goal.returns-in-Ok-2
 returns-in-Ok-2 c =
-    let p = too_many c.args.text.now c.expression.new.parts (omega arith) c.if-parts-gt-MOST-PARTS.true (whole c.args.text.now c.in-Ok.at _ _ c.in-Ok.ensures c.if-at-text.false c.new-parts.ensures) in
+    let p = too_many c.args.text.now c.expression.new.parts (omega arith) c.if-parts-gt-MOST_PARTS.true (whole c.args.text.now c.in-Ok.at _ _ c.in-Ok.ensures c.if-at-text.false c.new-parts.ensures) in
     record { parsed = p; decided = decided_by _ _ p }
 
 pub returns-in-Ok-3 : goal.returns-in-Ok-3
 returns-in-Ok-3 c =
-    let p = accepted c.args.text.now c.expression.new.parts (omega arith) c.if-parts-gt-MOST-PARTS.false (whole c.args.text.now c.in-Ok.at _ _ c.in-Ok.ensures c.if-at-text.false c.new-parts.ensures) in
+    let p = accepted c.args.text.now c.expression.new.parts (omega arith) c.if-parts-gt-MOST_PARTS.false (whole c.args.text.now c.in-Ok.at _ _ c.in-Ok.ensures c.if-at-text.false c.new-parts.ensures) in
     record { parsed = p; decided = decided_by _ _ p }
 
 pub returns-in-Err : goal.returns-in-Err

@@ -1,6 +1,6 @@
-use Rattle.std.proofs.Common.{◌+◌, ◌-◌, ◌*◌, ◌<◌, ◌≤◌, length}
+use Rattle.std.proofs.Common.{◌+◌, ◌-◌, ◌*◌, length}
 use Rattle.expressions.proofs.Turns.{Going, ExpressionOn, RunOn, ItemOn}
-use Rattle.expressions.proofs.reader.+atom_expression_item_run.Given as goal
+use Rattle.expressions.proofs.reader.+reader.Given as goal
 
 abbrev pub decreases-atom : goal.decreases-atom
 decreases-atom l = 4 * (length l.text.now - l.from)
