@@ -1,5 +1,5 @@
 -- What the two passes over a file leave in the buffers. Assumes nothing.
-use Rattle.std.proofs.Common.{◌≡◌, ℕ, ◌+◌, ◌-◌, ◌*◌, ◌≤◌, min, List, [], ◌∷◌, ◌++◌, map, length, take, drop, Ok, Result, sym, refl, ap, ◌∙◌, subst, arith}
+use Rattle.std.proofs.Common.{◌≡◌, ℕ, ◌+◌, ◌-◌, ◌*◌, ◌≤◌, min, List, ◌++◌, map, length, take, drop, Ok, Result, sym, ap, ◌∙◌, subst, arith}
 use Rattle.std.proofs.lemmas.List.{take_rest, take_at, drop_at, length-map, length-take-le, drop-drop}
 use Rattle.std.specs.List.{flat_map}
 use Rattle.graphs.specs.declared.link.Link.{Link}
@@ -7,7 +7,7 @@ use Rattle.kinds.specs.Payloads.{Shape}
 use Rattle.refusals.specs.declared.Refusal.{Refusal}
 use Rattle.files.specs.declared.counts.Counts.{Counts}
 use Rattle.files.specs.Books.{room_of, Held}
-use Rattle.files.specs.Encoding.{entry_kind, framed, links_bytes, Raw, written, raw_book, encode, counts_of, Fits}
+use Rattle.files.specs.Encoding.{entry_kind, framed, links_bytes, Raw, written, raw_book, counts_of, Fits}
 use Rattle.files.specs.Walking.{payloads_in, behind, Lies, links_in, Surveyed}
 use Rattle.files.proofs.Filling.{payloads_written, behind_written, lies_written, links_written, links_length}
 

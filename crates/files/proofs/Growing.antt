@@ -1,5 +1,5 @@
 -- A book that grows by one record after the other. Assumes nothing.
-use Rattle.std.proofs.Common.{◌≡◌, ℕ, zero, suc, ◌+◌, ◌-◌, ◌*◌, ◌/◌, ◌%◌, ◌<◌, ◌≤◌, Bool, true, false, cond, not, ◌&&◌, ◌||◌, eqb, leb, List, [], ◌∷◌, ◌++◌, length, get_or, take, drop, Some, None, Ok, Option, sym, refl, ap, ◌∙◌, subst, arith}
+use Rattle.std.proofs.Common.{◌≡◌, ℕ, zero, suc, ◌+◌, ◌-◌, ◌/◌, ◌%◌, ◌<◌, ◌≤◌, Bool, true, false, not, ◌&&◌, eqb, leb, List, [], ◌∷◌, ◌++◌, length, get_or, take, drop, Some, None, Ok, sym, refl, ap, ◌∙◌, subst, arith}
 use Rattle.std.proofs.ByRecursion.{All-push}
 use Rattle.std.proofs.lemmas.List.{append_assoc, append-nil, length-append, length-drop, length_push, length-take-le, nil_from_length, get_or-drop, drop-drop, flat_map_more, take-append-drop, take_rest, drop_all}
 use Rattle.std.proofs.lemmas.Bool.{eqb-true, eq-eqb, not-false, leb-false, false≢true}
@@ -7,7 +7,7 @@ use Rattle.std.proofs.lemmas.Bool.Decides.{nat_tests}
 use Rattle.std.specs.List.{flat_map}
 use Rattle.graphs.specs.Links.{sound}
 use Rattle.graphs.specs.declared.link.Link.{Link}
-use Rattle.kinds.specs.Payloads.{Shape, fitting, valid, word}
+use Rattle.kinds.specs.Payloads.{Shape, valid, word}
 use Rattle.refusals.specs.Rows.{first_refusal}
 use Rattle.refusals.specs.declared.Refusal.{Refusal}
 use Rattle.files.specs.declared.check.RecordKind.{RecordKind}

@@ -1,17 +1,16 @@
 -- The records of a book, written one after the other. Assumes nothing.
-use Rattle.std.proofs.Common.{◌≡◌, ℕ, zero, suc, ◌+◌, ◌-◌, ◌*◌, ◌/◌, ◌%◌, ◌<◌, ◌≤◌, Bool, true, false, cond, not, ◌&&◌, ◌||◌, ltb, leb, List, [], ◌∷◌, ◌++◌, map, length, get_or, take, drop, sym, refl, ap, ◌∙◌, subst, arith}
+use Rattle.std.proofs.Common.{◌≡◌, ℕ, zero, suc, ◌+◌, ◌-◌, ◌*◌, ◌/◌, ◌%◌, ◌<◌, ◌≤◌, Bool, true, false, ◌&&◌, ltb, leb, List, [], ◌∷◌, ◌++◌, map, length, get_or, take, drop, sym, refl, ap, ◌∙◌, subst, arith}
 use borrow.Rule.Slice.PartMut.{put_mid}
 use Rattle.std.proofs.ByRecursion.{All-push}
-use Rattle.std.proofs.lemmas.List.{append_assoc, length-append, length-drop, length-map, length-take-le, drop_all, drop_more, take_more, take_all, take_at, map_more, flat_map_more, at_drop_more}
-use Rattle.std.proofs.lemmas.Slice.{take-put_mid, drop-put_mid, drop-append-drop}
+use Rattle.std.proofs.lemmas.List.{length-append, length-drop, length-take-le, drop_all, drop_more, take_more, take_all, take_at, map_more, flat_map_more, at_drop_more}
+use Rattle.std.proofs.lemmas.Slice.{take-put_mid}
 use Rattle.std.proofs.lemmas.Bool.{and_parts, and_left, ltb-true}
 use Rattle.std.specs.List.{flat_map, AllByRecursion as All}
 use Rattle.graphs.specs.Links.{sound, all_sound}
 use Rattle.graphs.specs.declared.link.Link.{Link}
 use Rattle.kinds.proofs.Fronts.{overlaid_whole}
 use Rattle.kinds.specs.Payloads.{Shape, valid, overlaid}
-use Rattle.files.specs.Encoding.{head_kind, entry_kind, link_kind, two_bytes, framed, link_bytes, entry_bytes, links_bytes, encode}
-use Rattle.files.proofs.Filling.{links_length}
+use Rattle.files.specs.Encoding.{entry_kind, link_kind, framed, link_bytes, entry_bytes, links_bytes}
 
 -- links that are sound so far
 pub sound_more : (n : ℕ) (ls : List Link) (i : ℕ) (d : Link) (r : Bool) → i < length ls → all_sound n (drop i ls) ≡ r → sound n (get_or ls i d) ≡ true → all_sound n (drop (i + 1) ls) ≡ r

@@ -1,5 +1,5 @@
 -- A file that is written reads back, and a file that is read is written again. Assumes nothing.
-use Rattle.std.proofs.Common.{◌≡◌, ℕ, ◌+◌, ◌-◌, ◌*◌, ◌<◌, ◌≤◌, min, true, ◌&&◌, leb, List, [], ◌∷◌, ◌++◌, map, length, take, drop, Some, None, Ok, Err, Result, sym, refl, ap, ◌∙◌, subst, arith}
+use Rattle.std.proofs.Common.{◌≡◌, ℕ, ◌+◌, ◌-◌, ◌*◌, ◌<◌, ◌≤◌, true, ◌&&◌, leb, List, [], ◌∷◌, ◌++◌, map, length, take, drop, Some, None, Ok, Err, Result, sym, refl, ap, ◌∙◌, subst, arith}
 use borrow.Rule.Slice.PartMut.{put_mid}
 use Rattle.std.proofs.lemmas.List.{append_assoc, length-append, length-drop, length-map, take_at}
 use Rattle.std.proofs.lemmas.Slice.{take-put_mid, drop-put_mid, drop-append-drop}
@@ -13,8 +13,7 @@ use Rattle.refusals.specs.declared.Refusal.{Refusal}
 use Rattle.refusals.specs.declared.Refusal.TheVariants.{BytesTooShort}
 use Rattle.files.specs.declared.counts.Counts.{Counts}
 use Rattle.files.specs.Books.{room_of, Decided, writable, write_rows, Put, SameFile, SameBook}
-use Rattle.files.specs.Encoding.{head_kind, two_bytes, framed, entry_bytes, links_bytes, Raw, written, raw_book, encode, most_entries, most_links, counts_of, Fits}
-use Rattle.files.specs.Reading.{Refused}
+use Rattle.files.specs.Encoding.{head_kind, two_bytes, framed, entry_bytes, links_bytes, raw_book, encode, most_entries, most_links, counts_of, Fits}
 use Rattle.files.specs.Walking.{Surveyed}
 use Rattle.files.proofs.Filling.{links_length}
 use Rattle.files.proofs.Putting.{sound_all, length-put_mid}

@@ -1,16 +1,16 @@
 -- The graph of a sheet is lawful: lemmas that the code's ghost members cite, and that no reader has to believe. Assumes nothing.
-use Rattle.std.specs.Prelude.{◌≡◌, ℕ, zero, suc, ◌+◌, ◌<◌, ◌≤◌, Bool, true, false, cond, ◌&&◌, List, [], ◌∷◌, ◌++◌, map, length, Some, None, Option, ◌==◌, nat_eq, nat_lt, slice_index_or, refl}
+use Rattle.std.specs.Prelude.{◌≡◌, ℕ, zero, suc, ◌+◌, ◌<◌, Bool, true, false, cond, ◌&&◌, List, [], ◌∷◌, map, length, Some, None, Option, ◌==◌, nat_eq, nat_lt, slice_index_or, refl}
 use Rattle.std.proofs.Common.{sym, ap, subst, ◌∙◌, arith}
 use Rattle.std.proofs.ByRecursion.{All-append}
 use Rattle.std.proofs.lemmas.List.{length-map}
-use Rattle.std.proofs.lemmas.Bool.{and_from, eqb-true, eq-eqb, ltb-true, lt-ltb}
+use Rattle.std.proofs.lemmas.Bool.{and_from, eqb-true, eq-eqb, lt-ltb}
 use Rattle.std.specs.List.{range_with_len, flat_map, AllByRecursion as All}
 use Rattle.std.specs.Option.{option_map}
 use Rattle.graphs.specs.declared.link.Link.{Link}
 use Rattle.graphs.specs.GraphLaws.{valued_lawful}
 use Rattle.graphs.specs.Graphs.{Lawful}
 use Rattle.graphs.specs.Links.{sound}
-use Rattle.graphs.specs.Sheets.{SheetDay, entry_of, link_to, later, places_of, sheet_graph}
+use Rattle.graphs.specs.Sheets.{SheetDay, entry_of, link_to, places_of, sheet_graph}
 
 -- what a place holds stands among n entries
 abbrev Standing : ℕ → Option Link → Type 0

@@ -1,5 +1,5 @@
 -- A book that was read, written again and compared. Assumes nothing.
-use Rattle.std.proofs.Common.{◌≡◌, ℕ, ◌-◌, ◌≤◌, Bool, true, List, map, length, take, Ok, Decides, sym, ap, ◌∙◌, subst, arith}
+use Rattle.std.proofs.Common.{◌≡◌, ℕ, ◌-◌, ◌≤◌, Bool, List, length, take, Ok, Decides, ap, ◌∙◌, subst, arith}
 use Rattle.std.proofs.lemmas.List.{length-map}
 use Rattle.files.specs.Books.{room_of, Held, WriteBook, SameFile}
 use Rattle.files.specs.declared.counts.Counts.{Counts}

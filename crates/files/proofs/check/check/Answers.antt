@@ -1,7 +1,7 @@
 use Rattle.std.proofs.Common.{◌≡◌, rules}
 use Rattle.std.proofs.lemmas.Result.{err_from_is_err_and}
 use Rattle.files.specs.declared.check.RecordKind.TheVariants.{Entry, Link}
-use Rattle.files.proofs.Growing.{Going, counted, counted_as, going_start, Onward, going_on, going_refused, going_done}
+use Rattle.files.proofs.Growing.{counted, counted_as, going_start, going_on, going_refused, going_done}
 use Rattle.files.proofs.Passing.{passed}
 use Rattle.files.proofs.check.check.Goals as goal
 use Rattle.files.proofs.check.check.Goals.{in-Entry, in-Link}

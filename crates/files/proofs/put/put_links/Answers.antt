@@ -1,4 +1,4 @@
-use Rattle.std.proofs.Common.{length, sym, ◌∙◌, arith}
+use Rattle.std.proofs.Common.{◌∙◌, arith}
 use Rattle.std.proofs.lemmas.List.{length-take, length-drop}
 use Rattle.files.proofs.Putting.{linked_more, linked_all, ends_small}
 use Rattle.files.proofs.put.put_links.Goals as goal
