@@ -30,7 +30,7 @@ fn all_souls(rt: HostRuntime) -> Result<(), Fail> {
             links: 4,
         }
     );
-    assert!(rt; names[2].text() == b"All Soul");
+    assert!(rt; names[2].text() == b"All Soul".as_slice());
     assert_eq!(rt; names[2].bytes[8], 0);
     assert_eq!(rt; names[4].bytes[8], 9);
     assert!(rt; names[0].same(&names[3]));
@@ -50,7 +50,7 @@ fn all_souls(rt: HostRuntime) -> Result<(), Fail> {
         85
     );
     assert!(rt; &out[0..85] == ALL_SOULS);
-    assert!(rt; &out[85..100] == &[7; 15]);
+    assert!(rt; &out[85..100] == [7; 15].as_slice());
     Ok(())
 }
 

@@ -191,9 +191,9 @@ fn lines(rt: HostRuntime) {
     );
     assert_eq!(rt; out[0], 7);
     assert_eq!(rt; refusal_line(Refusal::TextTooShort, &mut out), Ok(16));
-    assert!(rt; &out[0..16] == b"refused 47 at 0\n");
+    assert!(rt; &out[0..16] == b"refused 47 at 0\n".as_slice());
     assert_eq!(rt; refusal_line(Refusal::BookUnwritable, &mut out), Ok(16));
-    assert!(rt; &out[0..16] == b"refused 71 at 0\n");
+    assert!(rt; &out[0..16] == b"refused 71 at 0\n".as_slice());
     assert_eq!(rt; refusal_line(Refusal::BytesTooShort, &mut out), Ok(16));
-    assert!(rt; &out[0..16] == b"refused 72 at 0\n");
+    assert!(rt; &out[0..16] == b"refused 72 at 0\n".as_slice());
 }

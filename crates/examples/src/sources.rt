@@ -7,7 +7,7 @@ use graphs::sheet::Sheet;
 use graphs::source::Source;
 use kinds::calendar::Calendar;
 use kinds::kind::{Kind, Payload};
-use kinds::name::{NamePayload, Payload as _};
+use kinds::name::NamePayload;
 use refusals::Refusal;
 use std::test::Fail;
 

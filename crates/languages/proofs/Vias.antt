@@ -1,6 +1,6 @@
 -- Sums along joints below k: how one more joint allowed splits them, and what that makes of their cells. Assumes nothing.
-use Rattle.std.proofs.Common.{◌≡◌, ℕ, zero, suc, ◌+◌, ◌<◌, ◌≤◌, min, ◌⊎◌, sym, refl, subst, inl, inr, ⊎_elim, add_assoc, arith}
-use native.Mathlib.Decide.{dec_lt, dec_le}
+use Rattle.std.proofs.Common.{◌≡◌, ℕ, zero, suc, ◌+◌, ◌<◌, ◌≤◌, min, ◌⊎◌, refl, subst, inl, inr, ⊎_elim, add_assoc, arith}
+use native.Mathlib.Decide.{dec_lt}
 use Rattle.languages.specs.Algebra.{sat_add, Cells, closed}
 use Rattle.languages.specs.Cells.{Cell}
 use Rattle.languages.proofs.CellLaws.{Sums, cell_sum, cell_min, cell_move}

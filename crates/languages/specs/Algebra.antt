@@ -1,5 +1,5 @@
 -- What evaluation computes of cells; no public contract cites this file. Assumes nothing.
-use Rattle.std.specs.Prelude.{◌≡◌, ℕ, zero, suc, ◌+◌, ◌<◌, min, cond, nat_lt}
+use Rattle.std.specs.Prelude.{ℕ, zero, suc, ◌+◌, ◌<◌, min, cond, nat_lt}
 use Rattle.languages.specs.Cells.{long, none, Cell}
 
 -- the cell of a path joined to another
