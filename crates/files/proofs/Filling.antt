@@ -2,7 +2,7 @@
 use Rattle.std.proofs.Common.{◌≡◌, ℕ, suc, ◌+◌, ◌-◌, ◌*◌, ◌<◌, ◌≤◌, true, cond, List, [], ◌∷◌, ◌++◌, map, length, get_or, take, drop, set, Some, None, sym, refl, ap, ◌∙◌, subst, arith}
 use Rattle.std.proofs.lemmas.List.{append_assoc, append-nil, length-append, length-drop, drop-drop, get_or-drop, get_or-take, take_more_set, map_push, take_all}
 use Rattle.std.proofs.lemmas.Bool.{cond-true}
-use Rattle.std.specs.List.{flat_map, AllByRecursion as All}
+use Rattle.std.specs.List.{flat_map, AllByRecursion}
 use Rattle.graphs.specs.declared.link.Link.{Link}
 use Rattle.kinds.specs.Payloads.{Shape, valid, word}
 use Rattle.files.specs.Encoding.{entry_kind, framed, links_bytes}
@@ -111,7 +111,7 @@ behind_written (p ∷ ps) t =
     ap (behind (suc (length ps))) (append_assoc (framed entry_kind p) (flat_map (framed entry_kind) ps) t)
     ∙ ap (behind (length ps)) (frame_rest entry_kind p u) ∙ behind_written ps t
 
-pub lies_written : (sh : Shape) (ps : List (List ℕ)) (t : List ℕ) → All (λ p. valid sh p ≡ true) ps → Lies sh (length ps) (flat_map (framed entry_kind) ps ++ t)
+pub lies_written : (sh : Shape) (ps : List (List ℕ)) (t : List ℕ) → AllByRecursion (λ p. valid sh p ≡ true) ps → Lies sh (length ps) (flat_map (framed entry_kind) ps ++ t)
 lies_written sh [] t h = tt
 lies_written sh (p ∷ ps) t h =
     let u = flat_map (framed entry_kind) ps ++ t in

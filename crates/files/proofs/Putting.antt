@@ -5,7 +5,7 @@ use Rattle.std.proofs.ByRecursion.{All-push}
 use Rattle.std.proofs.lemmas.List.{length-append, length-drop, length-take-le, drop_all, drop_more, take_more, take_all, take_at, map_more, flat_map_more, at_drop_more}
 use Rattle.std.proofs.lemmas.Slice.{take-put_mid}
 use Rattle.std.proofs.lemmas.Bool.{and_parts, and_left, ltb-true}
-use Rattle.std.specs.List.{flat_map, AllByRecursion as All}
+use Rattle.std.specs.List.{flat_map, AllByRecursion}
 use Rattle.graphs.specs.Links.{sound, all_sound}
 use Rattle.graphs.specs.declared.link.Link.{Link}
 use Rattle.kinds.proofs.Fronts.{overlaid_whole}
@@ -23,7 +23,7 @@ sound_stop n ls i d r h inv e =
     let a : all_sound n (drop i ls) ≡ (sound n (get_or ls i d) && all_sound n (drop (i + 1) ls)) = at_drop_more (all_sound n) ls i d h in
     sym (and_left _ (all_sound n (drop (i + 1) ls)) e) ∙ sym a ∙ inv
 
-pub sound_all : (n : ℕ) (ls : List Link) → all_sound n ls ≡ true → All (λ l. sound n l ≡ true) ls
+pub sound_all : (n : ℕ) (ls : List Link) → all_sound n ls ≡ true → AllByRecursion (λ l. sound n l ≡ true) ls
 sound_all n [] e = tt
 sound_all n (l ∷ ls) e = let p = and_parts (sound n l) (all_sound n ls) e in (p.0, sound_all n ls p.1)
 
@@ -47,7 +47,7 @@ module _ {V : Type 0} (encoded : V → List ℕ) where
   -- the sizes of the first i entries, added up
   pub record Summed (sh : Shape) (es : List V) (i sum : ℕ) : Type 0 where
     pub is : sum ≡ length (entry_bytes encoded (take i es))
-    pub values : All (λ p. valid sh p ≡ true) (map encoded (take i es))
+    pub values : AllByRecursion (λ p. valid sh p ≡ true) (map encoded (take i es))
     pub small : sum ≤ i * 65540
 
   pub sum_none : (sh : Shape) (es : List V) → Summed sh es 0 0
@@ -57,11 +57,11 @@ module _ {V : Type 0} (encoded : V → List ℕ) where
   sum_more sh es i sum n x h e size fine less t =
       record {
         is = omega (arith, ap length (bytes_more es i x h e), length-append (entry_bytes encoded (take i es)) (framed entry_kind (encoded x)), t.is);
-        values = subst (All (λ p. valid sh p ≡ true)) (sym (map_more encoded es i x h ∙ ap (λ y. map encoded (take i es) ++ encoded y ∷ []) (sym e))) (All-push (λ p. valid sh p ≡ true) (map encoded (take i es)) (encoded x) t.values fine);
+        values = subst (AllByRecursion (λ p. valid sh p ≡ true)) (sym (map_more encoded es i x h ∙ ap (λ y. map encoded (take i es) ++ encoded y ∷ []) (sym e))) (All-push (λ p. valid sh p ≡ true) (map encoded (take i es)) (encoded x) t.values fine);
         small = omega (arith, t.small);
       }
 
-  pub sum_all : (sh : Shape) (es : List V) (i sum : ℕ) → length es ≤ i → Summed sh es i sum → (sum ≡ length (entry_bytes encoded es)) × All (λ p. valid sh p ≡ true) (map encoded es)
+  pub sum_all : (sh : Shape) (es : List V) (i sum : ℕ) → length es ≤ i → Summed sh es i sum → (sum ≡ length (entry_bytes encoded es)) × AllByRecursion (λ p. valid sh p ≡ true) (map encoded es)
   sum_all sh es i sum h t = let a : take i es ≡ es = take_all i es h in (rw a at t.is, rw a at t.values)
 
   -- the first i entries are written, up to an offset

@@ -4,7 +4,7 @@ use borrow.Rule.Slice.PartMut.{put_mid}
 use Rattle.std.proofs.lemmas.List.{append_assoc, length-append, length-drop, length-map, take_at}
 use Rattle.std.proofs.lemmas.Slice.{take-put_mid, drop-put_mid, drop-append-drop}
 use Rattle.std.proofs.lemmas.Bool.{and_from, and_parts, cond-true, cond-false, le-leb, leb-true, le-ltb, lt-ltb, not_from_true}
-use Rattle.std.specs.List.{AllZip, AllByRecursion as All}
+use Rattle.std.specs.List.{AllZip, AllByRecursion}
 use Rattle.graphs.specs.Links.{sound, all_sound}
 use Rattle.graphs.specs.declared.link.Link.{Link}
 use Rattle.kinds.specs.Payloads.{Shape, valid}
@@ -32,7 +32,7 @@ decided sh room bytes (Err y) s =
       refused = λ x r. ap Err (one_refusal sh room y x bytes s r);
     }
 
-all_sound_lem : (n : ℕ) (ls : List Link) → All (λ l. sound n l ≡ true) ls → all_sound n ls ≡ true
+all_sound_lem : (n : ℕ) (ls : List Link) → AllByRecursion (λ l. sound n l ≡ true) ls → all_sound n ls ≡ true
 all_sound_lem n [] h = refl
 all_sound_lem n (l ∷ ls) h = and_from (sound n l) (all_sound n ls) h.0 (all_sound_lem n ls h.1)
 
@@ -40,7 +40,7 @@ all_sound_lem n (l ∷ ls) h = and_from (sound n l) (all_sound n ls) h.0 (all_so
 record Writable (n : ℕ) (ls : List Link) : Type 0 where
   few : n ≤ 128
   some : length ls ≤ 1024
-  fine : All (λ l. sound n l ≡ true) ls
+  fine : AllByRecursion (λ l. sound n l ≡ true) ls
 
 writable_parts : (n : ℕ) (ls : List Link) → writable n ls ≡ true → Writable n ls
 writable_parts n ls e =
@@ -65,11 +65,11 @@ module _ {V : Type 0} (sh : Shape) (encoded : V → List ℕ) where
   write_none es ls room fine h = cond-false _ _ _ (not_from_true _ fine) ∙ cond-false _ _ _ (le-ltb room _ h)
 
   module _ (es : List V) (ls : List Link) (fine : true ≡ writable (length es) ls) where
-    pub put_fits : All (λ p. valid sh p ≡ true) (map encoded es) → Fits sh most (raw_book encoded es ls)
+    pub put_fits : AllByRecursion (λ p. valid sh p ≡ true) (map encoded es) → Fits sh most (raw_book encoded es ls)
     put_fits values =
         let n : length (map encoded es) ≡ length es = length-map es encoded in
         let p = writable_parts (length es) ls (sym fine) in
-        record { entries = rw n p.few; links = p.some; values = values; joins = subst (λ k. All (λ l. sound k l ≡ true) ls) (sym n) p.fine }
+        record { entries = rw n p.few; links = p.some; values = values; joins = subst (λ k. AllByRecursion (λ l. sound k l ≡ true) ls) (sym n) p.fine }
 
     pub put_book : (out h e l : List ℕ) (size : ℕ) → h ≡ framed head_kind (two_bytes sh.number) → e ≡ entry_bytes encoded es → l ≡ links_bytes ls → size ≡ length (entry_bytes encoded es) → 6 + size + 7 * length ls ≤ length out → Put sh encoded es ls out (put_mid (6 + size) (6 + size + 7 * length ls - (6 + size)) (put_mid 6 (6 + size - 6) (h ++ drop 6 out) e) l) (6 + size + 7 * length ls)
     put_book out h e l size eh ee el es-size room =
@@ -125,7 +125,7 @@ module _ {V : Type 0} (sh : Shape) (encoded : V → List ℕ) where
       (ap Ok size, ap (λ k. take k out') (sym size) ∙ put.front ∙ sym is)
   same_file room bytes es ls a b fits is out out' (Err x) h put =
       let n : length (map encoded es) ≡ length es = length-map es encoded in
-      let fine : writable (length es) ls ≡ true = writable_from (length es) ls (record { few = omega (arith, fits.entries); some = omega (arith, fits.links); fine = subst (λ k. All (λ l. sound k l ≡ true) ls) n fits.joins }) in
+      let fine : writable (length es) ls ≡ true = writable_from (length es) ls (record { few = omega (arith, fits.entries); some = omega (arith, fits.links); fine = subst (λ k. AllByRecursion (λ l. sound k l ≡ true) ls) n fits.joins }) in
       let none = write_none es ls (length out) fine (omega (arith, ap length is)) in
       let both : None ≡ Some x = sym none ∙ put.0 in
       let z : ◌≡◌ {A = ℕ} 0 1 = cc in

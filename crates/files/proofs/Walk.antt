@@ -3,7 +3,7 @@ use Rattle.std.proofs.Common.{◌≡◌, ℕ, zero, suc, ◌+◌, ◌/◌, ◌%�
 use Rattle.std.proofs.lemmas.List.{append_assoc, append-nil, length-append, length_push, take_at, drop_at}
 use Rattle.std.proofs.lemmas.Bool.{and_parts, cond-true, eq-eqb, lt-leb, not_from_true}
 use Rattle.std.specs.Option.{option_map}
-use Rattle.std.specs.List.{flat_map, AllByRecursion as All}
+use Rattle.std.specs.List.{flat_map, AllByRecursion}
 use Rattle.graphs.specs.Links.{sound}
 use Rattle.graphs.specs.declared.link.Link.{Link}
 use Rattle.kinds.specs.Payloads.{Shape, fitting, valid, word}
@@ -120,7 +120,7 @@ module _ (sh : Shape) (room : Counts) where
   abbrev link_frame : Link → List ℕ
   link_frame l = framed link_kind (link_bytes l)
 
-  walk_links : (qs : List Link) (f : ℕ) (ps : List (List ℕ)) (ls : List Link) (t : List ℕ) → length ls + length qs ≤ room.links → All (λ l. sound (length ps) l ≡ true) qs → walk (length qs + f) (Some (record { payloads = ps; links = ls })) (flat_map link_frame qs ++ t) ≡ walk f (Some (record { payloads = ps; links = ls ++ qs })) t
+  walk_links : (qs : List Link) (f : ℕ) (ps : List (List ℕ)) (ls : List Link) (t : List ℕ) → length ls + length qs ≤ room.links → AllByRecursion (λ l. sound (length ps) l ≡ true) qs → walk (length qs + f) (Some (record { payloads = ps; links = ls })) (flat_map link_frame qs ++ t) ≡ walk f (Some (record { payloads = ps; links = ls ++ qs })) t
   walk_links [] f ps ls t space fine =
       ap (λ n. walk n (Some (record { payloads = ps; links = ls })) t) (omega arith) ∙ ap (λ ms. walk f (Some (record { payloads = ps; links = ms })) t) (sym (append-nil ls))
   walk_links (q ∷ qs) f ps ls t space fine =
@@ -134,7 +134,7 @@ module _ (sh : Shape) (room : Counts) where
   fitting_of : (p : List ℕ) → valid sh p ≡ true → fitting sh (length p) ≡ true
   fitting_of p e = (and_parts (fitting sh (length p)) _ e).0
 
-  walk_entries : (qs : List (List ℕ)) (f : ℕ) (ps : List (List ℕ)) (t : List ℕ) → length ps + length qs ≤ room.entries → All (λ p. valid sh p ≡ true) qs → walk (length qs + f) (Some (record { payloads = ps; links = [] })) (flat_map (framed entry_kind) qs ++ t) ≡ walk f (Some (record { payloads = ps ++ qs; links = [] })) t
+  walk_entries : (qs : List (List ℕ)) (f : ℕ) (ps : List (List ℕ)) (t : List ℕ) → length ps + length qs ≤ room.entries → AllByRecursion (λ p. valid sh p ≡ true) qs → walk (length qs + f) (Some (record { payloads = ps; links = [] })) (flat_map (framed entry_kind) qs ++ t) ≡ walk f (Some (record { payloads = ps ++ qs; links = [] })) t
   walk_entries [] f ps t space fine =
       ap (λ n. walk n (Some (record { payloads = ps; links = [] })) t) (omega arith) ∙ ap (λ rs. walk f (Some (record { payloads = rs; links = [] })) t) (sym (append-nil ps))
   walk_entries (q ∷ qs) f ps t space fine =

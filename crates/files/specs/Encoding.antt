@@ -1,6 +1,6 @@
 -- A book as a file: a head, then the entries, then the links, each a record. Assumes nothing.
 use Rattle.std.specs.Prelude.{◌≡◌, ℕ, ◌/◌, ◌%◌, ◌≤◌, true, List, [], ◌∷◌, ◌++◌, map, length}
-use Rattle.std.specs.List.{flat_map, AllByRecursion as All}
+use Rattle.std.specs.List.{flat_map, AllByRecursion}
 use Rattle.graphs.specs.Links.{sound}
 use Rattle.graphs.specs.declared.link.Link.{Link}
 use Rattle.kinds.specs.Payloads.{Shape, valid}
@@ -65,5 +65,5 @@ counts_of b = record { entries = length b.payloads; links = length b.links }
 pub record Fits (sh : Shape) (room : Counts) (b : Raw) : Type 0 where
   pub entries : length b.payloads ≤ room.entries
   pub links : length b.links ≤ room.links
-  pub values : All (λ p. valid sh p ≡ true) b.payloads
-  pub joins : All (λ l. sound (length b.payloads) l ≡ true) b.links
+  pub values : AllByRecursion (λ p. valid sh p ≡ true) b.payloads
+  pub joins : AllByRecursion (λ l. sound (length b.payloads) l ≡ true) b.links

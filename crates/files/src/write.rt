@@ -1,6 +1,6 @@
 // A book as a file.
 ghost use Rattle.std.specs.Prelude.{◌≡◌, ℕ, ◌*◌, ◌≤◌, true, map, length, take, IfOk};
-ghost use Rattle.std.specs.List.{AllByRecursion as All};
+ghost use Rattle.std.specs.List.{AllByRecursion};
 ghost use Rattle.graphs.specs.Links.{all_sound};
 ghost use Rattle.kinds.specs.Payloads.{valid};
 ghost use Rattle.files.specs.Books.{writable, WriteBook, SameBook};
@@ -36,7 +36,7 @@ fn is_writable(entries: usize, links: &[Link]) -> bool
 fn entries_size<K: Kind>(entries: &[K]) -> usize
     requires { length entries.now ≤ 128 }
     ensures is { result ≡ length (entry_bytes K.Payload.Payload.encoded entries.now) }
-    ensures values { All (λ p. valid K.Payload.Payload.shape p ≡ true) (map K.Payload.Payload.encoded entries.now) }
+    ensures values { AllByRecursion (λ p. valid K.Payload.Payload.shape p ≡ true) (map K.Payload.Payload.encoded entries.now) }
     ensures small { result ≤ 128 * 65540 }
 {
     let mut sum = 0;

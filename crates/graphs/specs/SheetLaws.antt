@@ -4,7 +4,7 @@ use Rattle.std.proofs.Common.{sym, ap, subst, ◌∙◌, arith}
 use Rattle.std.proofs.ByRecursion.{All-append}
 use Rattle.std.proofs.lemmas.List.{length-map}
 use Rattle.std.proofs.lemmas.Bool.{and_from, eqb-true, eq-eqb, lt-ltb}
-use Rattle.std.specs.List.{range_with_len, flat_map, AllByRecursion as All}
+use Rattle.std.specs.List.{range_with_len, flat_map, AllByRecursion}
 use Rattle.std.specs.Option.{option_map}
 use Rattle.graphs.specs.declared.link.Link.{Link}
 use Rattle.graphs.specs.GraphLaws.{valued_lawful}
@@ -39,7 +39,7 @@ month_standing : (n i : ℕ) → i < n → (o : Option ℕ) → ((j : ℕ) → o
 month_standing n i hi None h = standing_none n
 month_standing n i hi (Some j) h = standing_link n i 109 j (and_from _ _ (lt-ltb i n hi) (lt-ltb j n (h j refl)))
 
-places_standing : (days : List SheetDay) (i : ℕ) → i < length days → All (Standing (length days)) (places_of days i)
+places_standing : (days : List SheetDay) (i : ℕ) → i < length days → AllByRecursion (Standing (length days)) (places_of days i)
 places_standing days i hi =
     let n = length days in (
       later_cases n i 100 1 (nat_lt (i + 1) n) (λ e. and_from _ _ (lt-ltb i n hi) e),
@@ -49,11 +49,11 @@ places_standing days i hi =
       ),
     )
 
-all_counted : {X : Type 0} (P : X → Type 0) (f : ℕ → List X) (a n : ℕ) → ((i : ℕ) → i < a + n → All P (f i)) → All P (flat_map f (range_with_len a n))
+all_counted : {X : Type 0} (P : X → Type 0) (f : ℕ → List X) (a n : ℕ) → ((i : ℕ) → i < a + n → AllByRecursion P (f i)) → AllByRecursion P (flat_map f (range_with_len a n))
 all_counted P f a zero h = tt
 all_counted P f a (suc n) h = All-append P (f a) (flat_map f (range_with_len (a + 1) n)) (h a (omega arith)) (all_counted P f (a + 1) n (λ i e. h i (omega arith)))
 
-all_at : {X : Type 0} (P : X → Type 0) (xs : List X) (k : ℕ) (d : X) → P d → All P xs → P (slice_index_or xs k d)
+all_at : {X : Type 0} (P : X → Type 0) (xs : List X) (k : ℕ) (d : X) → P d → AllByRecursion P xs → P (slice_index_or xs k d)
 all_at P [] k d h a = h
 all_at P (x ∷ xs) zero d h a = a.0
 all_at P (x ∷ xs) (suc k) d h a = all_at P xs k d h a.1

@@ -1,5 +1,5 @@
 -- Tables: where the block of each part lies, and what a filled one tells. Assumes nothing.
-use Rattle.std.specs.Prelude.{◌≡◌, ℕ, ◌+◌, ◌*◌, ◌<◌, ◌≤◌, List, length, slice_index}
+use Rattle.std.specs.Prelude.{◌≡◌, ℕ, ◌*◌, ◌<◌, ◌≤◌, List, length, slice_index}
 use Rattle.expressions.specs.Exprs.{Expr}
 use Rattle.expressions.specs.Numbering.{part_expr}
 use Rattle.expressions.specs.declared.part.Part.{Part}

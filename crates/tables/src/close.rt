@@ -7,7 +7,8 @@ use crate::relax::{relax_rows, row_of};
 
 // Takes the entries in order as middles.
 pub(crate) fn close(table: &mut [u32], out: usize, n: usize)
-    requires n_bound { (n ≤ 128) × (out + n * n ≤ length table.old) }
+    requires few { n ≤ 128 }
+    requires room { out + n * n ≤ length table.old }
     requires small { Small table.old out n }
     ensures { Rows out n n (closed n (cell table.old out n)) table.old table.new }
 {

@@ -8,7 +8,10 @@ use crate::relax::{relax_rows, row_of};
 
 // Each cell is the least over every middle, which the left block leads to and the right block on from.
 pub(crate) fn join(table: &mut [u32], left: usize, right: usize, out: usize, n: usize)
-    requires { (n ≤ 128) × ((left + n * n ≤ out) × ((right + n * n ≤ out) × (out + n * n ≤ length table.old))) }
+    requires few { n ≤ 128 }
+    requires left_before { left + n * n ≤ out }
+    requires right_before { right + n * n ≤ out }
+    requires room { out + n * n ≤ length table.old }
     ensures { Rows out n n (λ u v. least_below n (λ m. sat_add (cell table.old left n u m) (cell table.old right n m v))) table.old table.new }
 {
     fill_none(table, out, n * n);

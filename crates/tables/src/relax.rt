@@ -20,8 +20,8 @@ pub(crate) fn row_of(table: &[u32], start: usize, n: usize) -> [u32; MOST_ENTRIE
 
 // Goes over a middle with one row: `first` leads to the middle, and `middle` on from there. A cell is stored where that makes it smaller.
 fn relax_row(table: &mut [u32], start: usize, first: u32, middle: &[u32])
-    requires middle_in_bounds { start + length middle.now ≤ length table.old }
-    requires by_index { (v : ℕ) → v < length middle.now → slice_index table.old (start + v) ≤ none }
+    requires room { start + length middle.now ≤ length table.old }
+    requires small { (v : ℕ) → v < length middle.now → slice_index table.old (start + v) ≤ none }
     ensures { Wrote start (length middle.now) (λ v. min (slice_index table.old (start + v)) (sat_add first (slice_index middle.now v))) table.old table.new }
 {
     if first > LONG {
@@ -48,8 +48,11 @@ pub(crate) fn relax_rows(
     k: usize,
     middle: &[u32],
 )
-    requires n_bound { (n ≤ 128) × ((k < n) × ((length middle.now ≡ n) × (out + n * n ≤ length table.old))) }
-    requires fact { (left ≡ out) ⊎ (left + n * n ≤ out) }
+    requires few { n ≤ 128 }
+    requires is_middle { k < n }
+    requires row { length middle.now ≡ n }
+    requires room { out + n * n ≤ length table.old }
+    requires apart { (left ≡ out) ⊎ (left + n * n ≤ out) }
     requires small { Small table.old out n }
     ensures { Rows out n n (λ u v. min (cell table.old out n u v) (sat_add (cell table.old left n u k) (slice_index middle.now v))) table.old table.new }
 {

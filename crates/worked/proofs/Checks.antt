@@ -1,7 +1,7 @@
 -- The common check of the settled examples: what it passes holds. Assumes nothing.
 use Rattle.std.proofs.Common.{◌≡◌, ℕ, ◌≤◌, Bool, true, false, ◌&&◌, eqb, leb, List, [], ◌∷◌, length, sym, refl, ap, ◌∙◌, arith}
 use Rattle.std.proofs.lemmas.Bool.{and_parts, eqb-true, leb-true, false≢true}
-use Rattle.std.specs.List.{AllByRecursion as All}
+use Rattle.std.specs.List.{AllByRecursion}
 use Rattle.expressions.specs.Machine.{Answer, good, bad, go, step, start}
 use Rattle.expressions.specs.Wordings.{Refused, Fails}
 use Rattle.expressions.specs.Wordings.Refused.{no_expression as refused}
@@ -29,7 +29,7 @@ abbrev all_pass : List Example → Bool
 all_pass [] = true
 all_pass (x ∷ xs) = passes x && all_pass xs
 
-all_hold : (xs : List Example) → all_pass xs ≡ true → All Holds xs
+all_hold : (xs : List Example) → all_pass xs ≡ true → AllByRecursion Holds xs
 all_hold [] h = tt
 all_hold (x ∷ xs) h = let p = and_parts (passes x) (all_pass xs) h in (holds x p.0, all_hold xs p.1)
 

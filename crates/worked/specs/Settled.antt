@@ -1,6 +1,6 @@
 -- Settled examples: what the definitions say of some wordings, gathered in one table. Assumes nothing.
 use Rattle.std.specs.Prelude.{ℕ, List, [], ◌∷◌, codes}
-use Rattle.std.specs.List.{AllByRecursion as All}
+use Rattle.std.specs.List.{AllByRecursion}
 use Rattle.expressions.specs.Wordings.{Refused}
 use Rattle.refusals.specs.declared.Refusal.TheVariants.{NotAnExpression}
 
@@ -21,4 +21,4 @@ table =
 
 -- every example of the table holds
 abbrev pub Settled : Type 0
-Settled = All Holds table
+Settled = AllByRecursion Holds table

@@ -1,4 +1,4 @@
-use Rattle.std.proofs.Common.{◌≡◌, ◌+◌, min, get_or, subst, arith}
+use Rattle.std.proofs.Common.{◌+◌, min, get_or, subst, arith}
 use Rattle.tables.specs.Blocks.{Wrote}
 use Rattle.tables.proofs.Writing.{wrote_none, wrote_more}
 use Rattle.tables.proofs.block.lesser.Goals as goal

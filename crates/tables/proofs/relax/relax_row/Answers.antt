@@ -1,4 +1,4 @@
-use Rattle.std.proofs.Common.{◌≡◌, ◌<◌, ◌≤◌, length, get_or, sym, refl, ◌∙◌, subst, inl, inr, arith}
+use Rattle.std.proofs.Common.{◌≡◌, ◌≤◌, get_or, sym, ◌∙◌, subst, inl, inr, arith}
 use Rattle.languages.specs.Algebra.{sat_add}
 use Rattle.tables.specs.Blocks.{Wrote}
 use Rattle.tables.proofs.Relaxing.{relaxed, relaxed_none, relaxed_more, sat_none, sat_near}
@@ -7,7 +7,7 @@ use Rattle.tables.proofs.relax.relax_row.Goals as goal
 use Rattle.tables.proofs.relax.relax_row.Goals.{then-middle-v-gt-LONG, else-middle-v-gt-LONG, then-over-table, else-over-table}
 
 pub returns-then-first-gt-LONG : goal.returns-then-first-gt-LONG
-returns-then-first-gt-LONG c = relaxed_none c.args.start _ c.args.first c.args.middle.now c.args.table.now c.if-first-gt-LONG.true c.requires.1
+returns-then-first-gt-LONG c = relaxed_none c.args.start _ c.args.first c.args.middle.now c.args.table.now c.if-first-gt-LONG.true c.requires.small
 
 pub loop-v-init : goal.loop-v-init
 loop-v-init c = wrote_none _ _ _
