@@ -1,5 +1,5 @@
 -- Accepted questions about pairs. Assumes nothing.
-use Rattle.std.proofs.Common.{◌≡◌, ℕ, ◌+◌, ◌-◌, ◌<◌, ◌≤◌, false, ltb, leb, List, length, Some, None, Ok, Option, sym, refl, ap, ◌∙◌, subst, arith}
+use Rattle.std.proofs.Common.{◌≡◌, ℕ, ◌+◌, ◌<◌, ◌≤◌, false, List, length, Some, None, Ok, Option, refl, ap, ◌∙◌, subst}
 use Rattle.std.proofs.lemmas.Bool.{cond-false, le-ltb, lt-leb}
 use Rattle.expressions.specs.declared.part.Parts.{Parts}
 use Rattle.refusals.specs.Rows.{first_refusal}
@@ -9,7 +9,7 @@ use Rattle.queries.specs.declared.condition.Condition.{Condition}
 use Rattle.queries.specs.declared.condition.Condition.TheVariants.{Evaluated}
 use Rattle.queries.specs.Calls.{outside, pair_rows, Nexts, Tallies}
 use Rattle.queries.specs.Conditions.{Whole}
-use Rattle.queries.specs.Pairs.{First, From, After, Near, tallied}
+use Rattle.queries.specs.Pairs.{First, From, Near, tallied}
 use Rattle.queries.proofs.Firsts.{first_same, from_after, after_from, all_from}
 
 pub no_row : (p : Parts) (n : ℕ) (table : List ℕ) (pair : Option (ℕ × ℕ)) → outside n pair ≡ false → block_at n p.count ≤ length table → first_refusal (pair_rows (Evaluated p n) table pair) ≡ None

@@ -1,6 +1,6 @@
 -- What the first pair of a scan says of a call of next. Assumes nothing.
-use Rattle.std.proofs.Common.{◌≡◌, ℕ, ◌+◌, ◌<◌, ◌≤◌, ◌⊎◌, Some, None, Option, inl, inr, arith}
-use Rattle.queries.specs.Pairs.{First, From, Before, After}
+use Rattle.std.proofs.Common.{ℕ, ◌+◌, Some, None, Option, inl, inr, arith}
+use Rattle.queries.specs.Pairs.{First, From, Before}
 
 -- a first pair, of the same pairs in other words
 pub first_same : (P Q : ℕ → ℕ → Type 0) (n : ℕ) (R : ℕ → ℕ → Type 0) → ((a b : ℕ) → P a b → Q a b) → ((a b : ℕ) → Q a b → P a b) → (r : Option (ℕ × ℕ)) → First P n R r → First Q n R r

@@ -1,10 +1,10 @@
 -- What cells tell is so, by data paths. Assumes nothing.
-use Rattle.std.proofs.Common.{◌≡◌, ℕ, ◌-◌, ◌<◌, ◌≤◌, min, Bool, true, false, eqb, ltb, leb, ◌⊎◌, List, [], ◌∷◌, length, Some, None, Ok, Err, Result, sym, refl, ap, ◌∙◌, subst, inl, inr, arith}
+use Rattle.std.proofs.Common.{◌≡◌, ℕ, ◌-◌, ◌<◌, ◌≤◌, min, Bool, true, false, ltb, ◌⊎◌, List, [], ◌∷◌, length, Some, None, Ok, Err, Result, sym, refl, ◌∙◌, subst, inl, inr, arith}
 use Rattle.std.proofs.lemmas.Bool.{cases_lt, cases_eq, cond-true, cond-false, lt-ltb, le-ltb, lt-leb, eq-eqb, ne_eqb, false≢true}
 use Rattle.expressions.specs.Exprs.{Expr}
 use Rattle.expressions.specs.declared.part.Parts.{Parts}
 use Rattle.graphs.specs.Graphs.{Graph}
-use Rattle.languages.specs.Cells.{Cell, Lengths, long, none}
+use Rattle.languages.specs.Cells.{Cell, Lengths, long}
 use Rattle.languages.specs.Languages.{Joined}
 use Rattle.languages.specs.declared.step.Step.{Step}
 use Rattle.refusals.specs.Rows.{first_refusal}

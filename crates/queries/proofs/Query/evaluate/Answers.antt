@@ -4,7 +4,7 @@ use Rattle.queries.specs.Calls.{Evaluates}
 use Rattle.queries.proofs.Meaning.{evaluated_meant}
 use Rattle.queries.proofs.Query.evaluate.Goals as goal
 
-pub returns-else-table-cells-needed : goal.returns-else-table-cells-needed
-returns-else-table-cells-needed g c =
-    let e : Evaluates c.args.self.now.condition (g.S.Source.graph c.args.source.now) c.args.table.now (Evaluated c.in-Parsed-default·.parts.now c.entries-n.result) c.evaluate.new.table (Ok tt) = search rules in
+pub returns-else-table-cells_needed : goal.returns-else-table-cells_needed
+returns-else-table-cells_needed g c =
+    let e : Evaluates c.args.self.now.condition (g.S.Source.graph c.args.source.now) c.args.table.now (Evaluated c.in-Parsed-default-1.parts.now c.entries-n.result) c.evaluate.new.table (Ok tt) = search rules in
     record { evaluated = e; meant = evaluated_meant _ _ _ _ _ c.args.self.now.some e }

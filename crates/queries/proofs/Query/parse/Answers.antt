@@ -2,7 +2,7 @@ use Rattle.std.proofs.Common.{arith}
 use Rattle.expressions.proofs.Numbered.{some}
 use Rattle.queries.proofs.Query.parse.Goals as goal
 
-pub invariant-of-self : goal.invariant-of-self
-invariant-of-self c =
-    let a = c.in-default-Ok.ensures.parsed in
-    (omega (arith, a.stored.count, some a.expr), (omega (arith, a.stored.count, a.few), (omega arith, (a.stored.formed, tt))))
+pub invariant_of-self : goal.invariant_of-self
+invariant_of-self c =
+    let a = c.in_default-Ok.ensures.parsed in
+    record { some = omega (arith, a.stored.count, some a.expr); few = omega (arith, a.stored.count, a.few); small = omega arith; formed = a.stored.formed }

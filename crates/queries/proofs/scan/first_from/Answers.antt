@@ -1,4 +1,4 @@
-use Rattle.std.proofs.Common.{ℕ, ◌+◌, ◌*◌, ◌<◌, ◌≤◌, inl, inr, arith, below_more}
+use Rattle.std.proofs.Common.{ℕ, ◌<◌, ◌≤◌, inl, inr, arith, below_more}
 use Rattle.std.proofs.lemmas.Nat.{mul-add-lt}
 use Rattle.languages.specs.Cells.{long}
 use Rattle.queries.specs.Pairs.{From}

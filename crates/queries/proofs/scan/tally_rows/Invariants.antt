@@ -1,4 +1,4 @@
-use Rattle.std.proofs.Common.{◌≡◌, ℕ, ◌*◌, ◌≤◌}
+use Rattle.std.proofs.Common.{◌≡◌, ◌*◌, ◌≤◌}
 use Rattle.queries.specs.Pairs.{tallied}
 use Rattle.tables.specs.Blocks.{cell}
 use Rattle.queries.proofs.scan.tally_rows.Given as goal
