@@ -1,7 +1,6 @@
 -- What comes of asking, from what the steps say. Assumes nothing.
-use Rattle.std.proofs.Common.{◌≡◌, ℕ, ◌-◌, ◌<◌, ◌≤◌, Bool, true, false, eqb, ◌⊎◌, List, ◌++◌, length, Some, Ok, Err, MatchBool, Result, sym, refl, ap, ◌∙◌, subst, ⊎_elim, arith}
+use Rattle.std.proofs.Common.{◌≡◌, ℕ, ◌-◌, ◌<◌, ◌≤◌, Bool, true, false, eqb, ◌⊎◌, List, ◌++◌, length, Some, Ok, Err, MatchBool, Result, sym, ap, ◌∙◌, subst, ⊎_elim, arith}
 use Rattle.expressions.proofs.Numbered.{some}
-use Rattle.expressions.specs.Exprs.{Expr}
 use Rattle.expressions.specs.Wordings.{Accepted, Refused as WordingRefused, Parsed as WordingParsed}
 use Rattle.expressions.specs.declared.part.Parts.{Parts}
 use Rattle.files.specs.Reading.{Refused}
@@ -17,8 +16,8 @@ use Rattle.queries.specs.declared.condition.Condition.{Condition}
 use Rattle.queries.specs.declared.condition.Condition.TheVariants.{Parsed, Evaluated}
 use Rattle.refusals.specs.Rows.{first_refusal}
 use Rattle.refusals.specs.declared.Refusal.{Refusal}
-use Rattle.asking.specs.Asking.{program_room, BookOf, BookIn, FileRefused, WorkedAs, Worked, RefusedBy, by_file, by_room, Asked, Asks}
-use Rattle.asking.specs.Answers.{program_cells, Listed, Answered, listed}
+use Rattle.asking.specs.Asking.{program_room, BookOf, BookIn, WorkedAs, Worked, by_file, by_room, Asked, Asks}
+use Rattle.asking.specs.Answers.{program_cells, Answered, listed}
 use Rattle.asking.specs.Listings.{pairs_text}
 use Rattle.asking.specs.Input.{most_input, wording, book_file, value_kind}
 

@@ -1,5 +1,5 @@
 -- The book that was read from a file. Assumes nothing.
-use Rattle.std.proofs.Common.{◌≡◌, ℕ, ◌-◌, Bool, List, take, sym, refl, ap, ap₂, arith}
+use Rattle.std.proofs.Common.{ℕ, ◌-◌, Bool, List, take, ap₂, arith}
 use Rattle.files.specs.Books.{room_of, Held}
 use Rattle.files.specs.declared.counts.Counts.{Counts}
 use Rattle.graphs.specs.Books.{book_of}

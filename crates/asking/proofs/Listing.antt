@@ -1,5 +1,5 @@
 -- Lines behind lines. Assumes nothing.
-use Rattle.std.proofs.Common.{◌≡◌, ℕ, ◌+◌, ◌-◌, List, [], ◌++◌, take, sym, refl, ap, ◌∙◌, append_assoc, append-nil, add-one, arith}
+use Rattle.std.proofs.Common.{◌≡◌, ℕ, ◌+◌, ◌-◌, List, [], ◌++◌, take, sym, ap, ◌∙◌, append_assoc, append-nil, add-one, arith}
 use Rattle.queries.specs.Calls.{found_in}
 use Rattle.queries.specs.declared.found.Found.{Found}
 use Rattle.asking.specs.Listings.{pair_text, row_text, pairs_text}

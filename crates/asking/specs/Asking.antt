@@ -1,5 +1,5 @@
 -- What asking the question of the book in the input comes to. Assumes nothing.
-use Rattle.std.specs.Prelude.{◌≡◌, ℕ, ◌<◌, ◌≤◌, Bool, cond, ◌⊎◌, List, length, Some, Ok, Err, MatchBool, Result, ◌==◌}
+use Rattle.std.specs.Prelude.{◌≡◌, ℕ, ◌<◌, ◌≤◌, Bool, ◌⊎◌, List, length, Some, Ok, Err, MatchBool, Result, ◌==◌}
 use Rattle.expressions.specs.Wordings.{Accepted, Refused as WordingRefused}
 use Rattle.expressions.specs.declared.part.Parts.{Parts}
 use Rattle.files.specs.Encoding.{raw_book, encode, Fits}

@@ -9,7 +9,7 @@ loop-v-init c = nothing_yet _
 
 pub loop-v-preserved : goal.loop-v-preserved
 loop-v-preserved c =
-    row_more (whole_cell c.args.query.now.condition c.args.cells.now) c.args.u c.loop-v.v (vec_items c.args.text.now) (vec_items c.loop-v.text) (vec_items c.put-pair.new.text) c.in-ok-found.found c.in-ok-found.ensures.1 c.loop-v.invariant c.in-ok-put-pair.ensures
+    row_more (whole_cell c.args.query.now.condition c.args.cells.now) c.args.u c.loop-v.v (vec_items c.args.text.now) (vec_items c.loop-v.text) (vec_items c.put_pair.new.text) c.in_ok-found.found c.in_ok-found.ensures.1 c.loop-v.invariant c.in_ok-put_pair.ensures
 
 pub returns : goal.returns
 returns c =

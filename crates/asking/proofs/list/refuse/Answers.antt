@@ -4,4 +4,4 @@ use Rattle.asking.proofs.list.refuse.Goals as goal
 
 pub returns : goal.returns
 returns c =
-    one_line c.in-ok-length.length _ c.refusal-line.new.out (vec_items c.new-text.result) (vec_items c.extend-from-slice.new.self) c.new-text.ensures.items c.in-ok-extend-from-slice.ensures.items c.in-ok-length.ensures.front
+    one_line c.in_ok-length.length _ c.refusal_line.new.out (vec_items c.new-text.result) (vec_items c.extend_from_slice.new.self) c.new-text.ensures.items c.in_ok-extend_from_slice.ensures.items c.in_ok-length.ensures.front
