@@ -1,9 +1,8 @@
 -- The common check of the settled examples: what it passes holds. Assumes nothing.
-use Rattle.std.proofs.Common.{◌≡◌, ℕ, ◌≤◌, Bool, true, false, ◌&&◌, eqb, leb, List, [], ◌∷◌, length, sym, refl, ap, ◌∙◌, arith}
+use Rattle.std.proofs.Common.{◌≡◌, ℕ, Bool, true, false, ◌&&◌, eqb, leb, List, [], ◌∷◌, length, refl, ap}
 use Rattle.std.proofs.lemmas.Bool.{and_parts, eqb-true, leb-true, false≢true}
 use Rattle.std.specs.List.{AllByRecursion}
 use Rattle.expressions.specs.Machine.{Answer, good, bad, go, step, start}
-use Rattle.expressions.specs.Wordings.{Refused, Fails}
 use Rattle.expressions.specs.Wordings.Refused.{no_expression as refused}
 use Rattle.expressions.proofs.Main.{is_wrong}
 use Rattle.worked.specs.Settled.{Example, no_expression, Holds, table, Settled}

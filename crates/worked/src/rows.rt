@@ -156,15 +156,15 @@ fn lines(rt: HostRuntime) {
     );
     assert_eq!(rt; out[0], 7);
     assert_eq!(rt; refusal_line(Refusal::TextTooShort, &mut out), Ok(16));
-    assert!(rt; &out[0..16] == b"refused 47 at 0\n");
+    assert!(rt; &out[0..16] == b"refused 47 at 0\n".as_slice());
     assert_eq!(rt; refusal_line(Refusal::BookUnwritable, &mut out), Ok(16));
-    assert!(rt; &out[0..16] == b"refused 71 at 0\n");
+    assert!(rt; &out[0..16] == b"refused 71 at 0\n".as_slice());
     assert_eq!(rt; refusal_line(Refusal::BytesTooShort, &mut out), Ok(16));
-    assert!(rt; &out[0..16] == b"refused 72 at 0\n");
+    assert!(rt; &out[0..16] == b"refused 72 at 0\n".as_slice());
     assert_eq!(rt; first_line(4, 3, &mut out), Ok(18));
-    assert!(rt; &out[0..18] == b"entries 4 pairs 3\n");
+    assert!(rt; &out[0..18] == b"entries 4 pairs 3\n".as_slice());
     assert_eq!(rt; pair_line(10, 2, 999, &mut out), Ok(9));
-    assert!(rt; &out[0..9] == b"10 2 999\n");
+    assert!(rt; &out[0..9] == b"10 2 999\n".as_slice());
     assert_eq!(rt; long_line(0, 2, &mut out), Ok(9));
-    assert!(rt; &out[0..9] == b"0 2 long\n");
+    assert!(rt; &out[0..9] == b"0 2 long\n".as_slice());
 }
