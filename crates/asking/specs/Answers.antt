@@ -1,4 +1,4 @@
--- What the program prints of its input. Assumes nothing.
+-- What a program that asks one question prints of its input. Assumes nothing.
 use Rattle.std.specs.Prelude.{◌≡◌, ℕ, ◌<◌, ◌≤◌, Bool, true, false, List, length, None}
 use Rattle.expressions.specs.Wordings.{Accepted}
 use Rattle.expressions.specs.declared.part.Parts.{Parts}

@@ -1,4 +1,4 @@
--- The parts of the program's input. Assumes nothing.
+-- The parts of the input of a program that asks one question. Assumes nothing.
 use Rattle.std.specs.Prelude.{◌≡◌, ℕ, ◌+◌, ◌<◌, cond, List, [], ◌∷◌, length, take, ◌==◌, nat_lt, slice_index}
 use Rattle.std.specs.List.{between}
 use Rattle.kinds.specs.Payloads.{word}

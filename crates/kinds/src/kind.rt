@@ -56,7 +56,7 @@ pub trait Kind: Copy {
 
     type Payload: Payload<Self>;
 
-    // `NUMBER`, which a contract cannot cite.
+    // `NUMBER`, tied to the shape that generic code cites.
     fn file_number() -> u16
         ensures { result ≡ Self.Payload.Payload.shape.number };
 

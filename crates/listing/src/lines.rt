@@ -1,4 +1,4 @@
-// The lines that `pairs` prints.
+// The lines of an import, of an answer and of a refusal.
 ghost use Rattle.std.specs.Prelude.{◌≡◌, ℕ};
 ghost use Rattle.listing.specs.Lines.{refusal_line, record_line, first_line, pair_line, long_line, Lined};
 

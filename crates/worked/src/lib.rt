@@ -10,7 +10,7 @@ use std::alloc::Global;
 const ALL_SOULS: &[u8] =
     b"\x02\x00\x01\x00\x01\x00\x09\x00\x02\x00All Souls\x09\x00\x02\x00All Souls\x08\x00\x02\x00All Soul\x09\x00\x02\x00All Souls\x03\x00\x03\x00\x00c\x01\x03\x00\x03\x00\x01c\x02\x03\x00\x03\x00\x02c\x03\x03\x00\x03\x00\x00p\x03";
 
-// Whether the program prints this text of this input, and accepts it just where that is an answer.
+// Whether this text is what `answer_to` makes of this input, accepted just where it is an answer.
 #[cfg(test)]
 fn prints(heap: Global, input: &[u8], text: &[u8]) -> bool {
     match answer_to(heap, input) {

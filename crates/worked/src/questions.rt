@@ -12,7 +12,7 @@ use refusals::Refusal;
 use std::alloc::{AllocError, Global};
 use std::test::Fail;
 
-// Whether the program prints this text where the wording is asked of All Souls.
+// Whether this text is the answer where the wording is asked of All Souls.
 fn asked(heap: Global, wording: &[u8], text: &[u8]) -> Result<bool, AllocError> {
     let mut input = Vec::new(heap);
     input.extend_from_slice(wording)?;
@@ -189,7 +189,7 @@ fn refusals(rt: HostRuntime) -> Result<(), Fail> {
     Ok(())
 }
 
-// The program has room for 4,096 cells: 16 entries take at most 16 parts.
+// `answer_to` has room for 4,096 cells: 16 entries take at most 16 parts.
 #[test]
 fn program_cells(rt: HostRuntime) -> Result<(), Fail> {
     let heap = rt.alloc();

@@ -1,4 +1,4 @@
-// Refusals met by the program, with their places, and lines that do not fit.
+// Refusals that `answer_to` meets, with their places, and lines that do not fit.
 use crate::prints;
 use listing::lines::{first_line, long_line, pair_line, refusal_line};
 use refusals::Refusal;
@@ -126,7 +126,7 @@ fn links(rt: HostRuntime) {
     );
 }
 
-// The program has room for 16 entries.
+// `answer_to` has room for 16 entries.
 #[test]
 fn program_room(rt: HostRuntime) {
     assert!(rt;
