@@ -1,6 +1,6 @@
 -- What comes of asking, from what the steps say. Assumes nothing.
-use Rattle.std.proofs.Common.{◌≡◌, ℕ, ◌-◌, ◌<◌, ◌≤◌, Bool, true, false, eqb, ◌⊎◌, List, ◌++◌, length, Some, Ok, Err, MatchBool, Result, sym, ap, ◌∙◌, subst, ⊎_elim, arith}
-use Rattle.expressions.proofs.Numbered.{some}
+use Rattle.std.proofs.Common.{◌≡◌, ℕ, ◌-◌, ◌<◌, ◌≤◌, Bool, true, false, eqb, ◌⊎◌, List, length, Some, Ok, Err, MatchBool, Result, sym, ap, ◌∙◌, subst, ⊎_elim, arith}
+use Rattle.expressions.specs.Storing.{parts_of}
 use Rattle.expressions.specs.Wordings.{Accepted, Refused as WordingRefused, Parsed as WordingParsed}
 use Rattle.expressions.specs.declared.part.Parts.{Parts}
 use Rattle.files.specs.Reading.{Refused}
@@ -8,18 +8,16 @@ use Rattle.graphs.specs.Graphs.{Graph}
 use Rattle.kinds.specs.Days.{day_bytes, day_shape, same_day}
 use Rattle.kinds.specs.Names.{text, name_shape, same_name}
 use Rattle.languages.specs.Cells.{Cell, Lengths}
-use Rattle.listing.specs.Lines.{first_line}
 use Rattle.queries.specs.Calls.{evaluate_rows, Follows, Parses, Evaluates}
-use Rattle.queries.specs.Conditions.{entries_in, whole_cell}
-use Rattle.queries.specs.Pairs.{tallied}
+use Rattle.queries.specs.Conditions.{whole_cell}
 use Rattle.queries.specs.declared.condition.Condition.{Condition}
 use Rattle.queries.specs.declared.condition.Condition.TheVariants.{Parsed, Evaluated}
 use Rattle.refusals.specs.Rows.{first_refusal}
 use Rattle.refusals.specs.declared.Refusal.{Refusal}
-use Rattle.asking.specs.Asking.{program_room, BookOf, BookIn, WorkedAs, Worked, by_file, by_room, Asked, Asks}
-use Rattle.asking.specs.Answers.{program_cells, Answered, listed}
-use Rattle.asking.specs.Listings.{pairs_text}
-use Rattle.asking.specs.Input.{most_input, wording, book_file, value_kind}
+use Rattle.asking.specs.Asking.{BookOf, BookIn, WorkedAs, Worked, by_file, by_room, Asked, Asks}
+use Rattle.asking.specs.Answers.{program_cells, Listed}
+use Rattle.asking.specs.Listings.{listing_text}
+use Rattle.inputs.specs.Input.{most_input, program_room, wording, book_file, value_kind}
 
 -- a refusal of the file or of the evaluation, and a book that was evaluated, whichever the kind
 refusal_of : (b : Bool) (file : List ℕ) (q : Condition) (t : List ℕ) (q' : Condition) (t' : List ℕ) (x : Refusal) → MatchBool b (WorkedAs day_shape day_bytes same_day program_room file q t q' t' (Err x)) (WorkedAs name_shape text same_name program_room file q t q' t' (Err x)) → MatchBool b (Refused day_shape program_room file x) (Refused name_shape program_room file x) ⊎ ((g : Graph) × MatchBool b (BookOf day_shape day_bytes same_day program_room file g) (BookOf name_shape text same_name program_room file g) × (first_refusal (evaluate_rows q g t) ≡ Some x))
@@ -43,7 +41,7 @@ pub cells_told : (t t' : List ℕ) (q' : Condition) (text : List ℕ) (parts : P
 cells_told t t' q' text parts a g e u v hu hv =
     subst (λ q. Cell (Lengths g a.expr u v) (whole_cell q t' u v)) (sym e.1)
     (subst (λ x. Cell (Lengths g x u v) (whole_cell (Evaluated parts g.entries) t' u v)) a.stored.decodes
-    (e.2.cells (parts.count - 1) (omega (arith, a.stored.count, some a.expr)) u v hu hv))
+    (e.2.cells (length (parts_of parts) - 1) (omega (arith, parts.some)) u v hu hv))
 
 -- a wording that was parsed, and one that was refused
 pub wording_kept : (text : List ℕ) (q q' : Condition) → Parses q text q' (Ok tt) → (parts : Parts) × Accepted text parts × (q' ≡ Parsed parts)
@@ -51,21 +49,20 @@ wording_kept text q q' p = by_judged p.judged p.parsed p.follows
   where
     by_judged : (j : Result Parts Refusal) → WordingParsed text j → Follows q j q' (Ok tt) → (parts : Parts) × Accepted text parts × (q' ≡ Parsed parts)
     by_judged (Ok parts) a f = (parts, a, f.0)
-    by_judged (Err x) a f = absurd (let z : ◌≡◌ {A = ℕ} 0 1 = cc in omega arith)
+    by_judged (Err x) a f = absurd (cc)
 
 pub wording_refused : (text : List ℕ) (q q' : Condition) (x : Refusal) → Parses q text q' (Err x) → WordingRefused text x
 wording_refused text q q' x p = by_judged p.judged p.parsed p.follows
   where
     by_judged : (j : Result Parts Refusal) → WordingParsed text j → Follows q j q' (Err x) → WordingRefused text x
-    by_judged (Ok parts) a f = absurd (let z : ◌≡◌ {A = ℕ} 0 1 = cc in omega arith)
+    by_judged (Ok parts) a f = absurd (cc)
     by_judged (Err y) a f = let e : y ≡ x = cc in subst (WordingRefused text) e a
 
--- the answer, from what was evaluated and listed
-pub listed_by : (input t t' : List ℕ) (q' : Condition) (n : ℕ) (lines : List ℕ) → length t ≡ program_cells → Asks input t q' t' n → lines ≡ first_line n (tallied (whole_cell q' t') (entries_in q') (entries_in q')) ++ pairs_text (whole_cell q' t') n n → Answered input lines true
+-- the lines, from what was evaluated
+pub listed_by : (input t t' : List ℕ) (q' : Condition) (n : ℕ) (lines : List ℕ) → length t ≡ program_cells → Asks input t q' t' n → lines ≡ listing_text (whole_cell q' t') n → Listed input lines
 listed_by input t t' q' n lines z a l =
     let b = asks_book input t t' q' n a in
-    let e : entries_in q' ≡ b.0.entries = ap entries_in b.3.1 in
-    listed (record {
+    record {
       short = a.short;
       parts = a.parts;
       accepted = a.accepted;
@@ -74,8 +71,8 @@ listed_by input t t' q' n lines z a l =
       room = (t, z, b.3.0);
       cell = whole_cell q' t';
       cells = cells_told t t' q' (wording input) a.parts a.accepted b.0 b.3;
-      text = l ∙ ap (λ k. first_line n (tallied (whole_cell q' t') k k) ++ pairs_text (whole_cell q' t') n n) e ∙ ap (λ k. first_line k (tallied (whole_cell q' t') b.0.entries b.0.entries) ++ pairs_text (whole_cell q' t') k k) b.2;
-    })
+      text = l ∙ ap (listing_text (whole_cell q' t')) b.2;
+    }
 
 pub asked_all : (input text file t t' : List ℕ) (q q₁ q' : Condition) (r : Result ℕ Refusal) → text ≡ wording input → file ≡ book_file input → length input ≤ most_input → Parses q text q₁ (Ok tt) → Worked file q₁ t q' t' r → Asked input t q' t' r
 asked_all input text file t t' q q₁ q' r et ef h p w =

@@ -1,4 +1,4 @@
-pub mod Splitting
 pub mod Listing
 pub mod Booked
 pub mod Asked
+pub mod Made

@@ -8,6 +8,7 @@ use Rattle.files.specs.declared.counts.Counts.{Counts}
 use Rattle.graphs.specs.Books.{book_of}
 use Rattle.graphs.specs.Graphs.{Graph}
 use Rattle.graphs.specs.declared.link.Link.{Link}
+use Rattle.inputs.specs.Input.{most_input, program_room, wording, book_file, value_kind}
 use Rattle.kinds.specs.Days.{day_bytes, day_shape, same_day}
 use Rattle.kinds.specs.Names.{text, name_shape, same_name}
 use Rattle.kinds.specs.Payloads.{Shape}
@@ -17,11 +18,6 @@ use Rattle.queries.specs.declared.condition.Condition.TheVariants.{Parsed}
 use Rattle.refusals.specs.Rows.{first_refusal}
 use Rattle.refusals.specs.declared.Refusal.{Refusal}
 use Rattle.refusals.specs.declared.Refusal.TheVariants.{InputTooLong}
-use Rattle.asking.specs.Input.{most_input, wording, book_file, value_kind}
-
--- the room that the program has for a book
-abbrev pub program_room : Counts
-program_room = record { entries = 16; links = 256 }
 
 -- the file is that of some values and links for which there is room, and means this graph
 pub record BookOf {V : Type 0} (sh : Shape) (encoded : V → List ℕ) (alike : V → V → Bool) (room : Counts) (file : List ℕ) (g : Graph) : Type 0 where

@@ -1,4 +1,4 @@
-pub mod Input
 pub mod Listings
 pub mod Asking
 pub mod Answers
+pub mod Tells

@@ -1,43 +1,49 @@
 // The program's answer to its input.
 ghost use Rattle.std.specs.Prelude.{◌≡◌, ℕ, IfOk};
-ghost use Rattle.asking.specs.Answers.{Answered};
+ghost use Rattle.asking.specs.Answers.{answer_text, Answered};
 
 use crate::ask::ask;
-use crate::failure::Failure;
+use crate::evaluated::Evaluated;
 use crate::list::{list, refuse};
 use queries::Query;
-use std::alloc::Global;
+use std::alloc::{AllocError, Global};
 
 // The program has room for so many cells.
 const ROOM_CELLS: usize = 4096;
 
-// What the program prints, and whether the input was accepted.
-#[derive(Drop)]
-pub struct Answer {
-    pub text: Vec<u8>,
-    pub accepted: bool,
+// What the program prints: the lines of an answer, or the line of the refusal.
+#[derive(Debug, Drop)]
+pub enum Answer {
+    Listed(Vec<u8>),
+    Refused(Vec<u8>),
 }
 
-// The lines of the answer, or the line of the refusal.
-pub fn answer_to(heap: Global, input: &[u8]) -> Result<Answer, Failure>
-    ensures { IfOk result (λ a. Answered input.now a.text.items a.accepted) }
+impl Answer {
+    // The text, whichever it is.
+    pub fn text(&self) -> &[u8]
+        ensures { result.now ≡ answer_text self.now }
+    {
+        match self {
+            Answer::Listed(text) | Answer::Refused(text) => text.as_slice(),
+        }
+    }
+}
+
+// The lines of the answer, or the line of the refusal. No refusal becomes an error, which is left to the allocator.
+pub fn answer_to(heap: Global, input: &[u8]) -> Result<Answer, AllocError>
+    ensures { IfOk result (Answered input.now) }
 {
     let mut cells = [0; ROOM_CELLS];
     let mut query = Query::new();
     match ask(&mut query, input, &mut cells) {
-        Ok(n) => {
-            let text = list(heap, &query, &cells, n)?;
-            Ok(Answer {
-                text,
-                accepted: true,
-            })
+        Ok(entries) => {
+            let evaluated = Evaluated {
+                query: &query,
+                cells: &cells,
+                entries,
+            };
+            Ok(Answer::Listed(list(heap, evaluated)?))
         }
-        Err(refusal) => {
-            let text = refuse(heap, refusal)?;
-            Ok(Answer {
-                text,
-                accepted: false,
-            })
-        }
+        Err(refusal) => Ok(Answer::Refused(refuse(heap, refusal)?)),
     }
 }

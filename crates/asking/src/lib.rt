@@ -3,6 +3,5 @@
 
 pub mod answer;
 mod ask;
-pub mod failure;
-pub mod input;
+mod evaluated;
 mod list;

@@ -1,10 +1,9 @@
 // Books that are read and written again.
-use crate::{ALL_SOULS, prints};
+use crate::{ALL_SOULS, reports};
 use files::counts::Counts;
 use files::read::read_book;
 use files::write::write_book;
 use graphs::link::Link;
-use kinds::kind::Kind;
 use kinds::name::Name;
 use std::test::Fail;
 
@@ -33,8 +32,8 @@ fn all_souls(rt: HostRuntime) -> Result<(), Fail> {
     assert!(rt; names[2].text() == b"All Soul".as_slice());
     assert_eq!(rt; names[2].bytes[8], 0);
     assert_eq!(rt; names[4].bytes[8], 9);
-    assert!(rt; names[0].same(&names[3]));
-    assert!(rt; !names[0].same(&names[2]));
+    assert!(rt; names[0] == names[3]);
+    assert!(rt; names[0] != names[2]);
     assert_eq!(rt;
         links[3],
         Link {
@@ -58,29 +57,29 @@ fn all_souls(rt: HostRuntime) -> Result<(), Fail> {
 fn longest_names(rt: HostRuntime) {
     let mut input = [b'x'; 145];
     input[0..11].copy_from_slice(b"\n\x02\x00\x01\x00\x01\x00\x80\x00\x02\x00");
-    assert!(rt; prints(&input[0..139], b"entries 1 links 0 bytes 138\n"));
+    assert!(rt; reports(&input[0..139], b"entries 1 links 0 bytes 138\n"));
     input[7] = 129;
-    assert!(rt; prints(&input[0..140], b"refused 13 at 6\n"));
+    assert!(rt; reports(&input[0..140], b"refused 13 at 6\n"));
     input[7] = 0;
-    assert!(rt; prints(&input[0..11], b"refused 13 at 6\n"));
+    assert!(rt; reports(&input[0..11], b"refused 13 at 6\n"));
 }
 
 #[test]
 fn days(rt: HostRuntime) {
     assert!(rt;
-        prints(
+        reports(
             b"\n\x02\x00\x01\x00\x02\x00\x05\x00\x02\x00\x01\x6c\x07\x02\x1d",
             b"entries 1 links 0 bytes 15\n",
         )
     );
     assert!(rt;
-        prints(
+        reports(
             b"\n\x02\x00\x01\x00\x02\x00\x05\x00\x02\x00\x00\x6c\x07\x02\x1d",
             b"refused 14 at 6\n",
         )
     );
     assert!(rt;
-        prints(
+        reports(
             b"\n\x02\x00\x01\x00\x02\x00\x05\x00\x02\x00\x02\x6c\x07\x02\x1c",
             b"refused 14 at 6\n",
         )

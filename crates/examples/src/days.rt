@@ -1,7 +1,6 @@
 // Days that are the same, and days that do not exist.
 use crate::day;
 use kinds::calendar::Calendar;
-use kinds::kind::Kind;
 
 #[test]
 fn numbers(rt: HostRuntime) {
@@ -16,15 +15,15 @@ fn numbers(rt: HostRuntime) {
 #[test]
 fn sameness(rt: HostRuntime) {
     let christmas = day(Calendar::Julian, 2023, 12, 25);
-    assert!(rt; christmas.same(&day(Calendar::Gregorian, 2024, 1, 7)));
-    assert!(rt; !christmas.same(&day(Calendar::Gregorian, 2023, 12, 25)));
+    assert!(rt; christmas == day(Calendar::Gregorian, 2024, 1, 7));
+    assert!(rt; christmas != day(Calendar::Gregorian, 2023, 12, 25));
 }
 
 // Fields out of range stand for some day.
 #[test]
 fn any_fields(rt: HostRuntime) {
-    assert!(rt; day(Calendar::Gregorian, 1899, 0, 0).same(&day(Calendar::Gregorian, 2199, 12, 31)));
-    assert!(rt; day(Calendar::Gregorian, 2200, 13, 32).same(&day(Calendar::Gregorian, 1900, 1, 1)));
+    assert!(rt; day(Calendar::Gregorian, 1899, 0, 0) == day(Calendar::Gregorian, 2199, 12, 31));
+    assert!(rt; day(Calendar::Gregorian, 2200, 13, 32) == day(Calendar::Gregorian, 1900, 1, 1));
 }
 
 #[test]

@@ -1,9 +1,11 @@
-// Worked examples: books, days and every refusal, run and compared with what they should give.
+// Worked examples of books, days, sources, wordings, questions and refusals, run and compared with what they should give; and a table of those that are proved.
 #![tactic(auto)]
 
+use asking::answer::{Answer, answer_to};
 use imports::report::{Report, report_on};
 use kinds::calendar::Calendar;
 use kinds::day::Day;
+use std::alloc::Global;
 
 // All Souls, copied three times and once cut short, as a file of 85 bytes.
 const ALL_SOULS: &[u8] =
@@ -11,12 +13,24 @@ const ALL_SOULS: &[u8] =
 
 // Whether the program prints this line of this input, and accepts it just where that is a record.
 #[cfg(test)]
-fn prints(input: &[u8], line: &[u8]) -> bool {
+fn reports(input: &[u8], line: &[u8]) -> bool {
     let mut out = [0; 128];
     match report_on(input, &mut out) {
-        Ok(Report { length, accepted }) => {
-            let record = line.len() > 0 && line[0] == b'e';
-            &out[0..length] == line && accepted == record
+        Ok(report) => {
+            let accepted = matches!(report, Report::Accepted(_));
+            &out[..report.length()] == line && accepted == line.starts_with(b"e")
+        }
+        Err(_) => false,
+    }
+}
+
+// Whether this text is what `answer_to` makes of this input, accepted just where it is an answer.
+#[cfg(test)]
+fn answers(heap: Global, input: &[u8], text: &[u8]) -> bool {
+    match answer_to(heap, input) {
+        Ok(answer) => {
+            let listed = matches!(answer, Answer::Listed(_));
+            answer.text() == text && listed == text.starts_with(b"e")
         }
         Err(_) => false,
     }
@@ -37,6 +51,11 @@ mod books;
 #[cfg(test)]
 mod days;
 #[cfg(test)]
+mod questions;
+#[cfg(test)]
 mod rows;
+pub mod settled;
 #[cfg(test)]
 mod sources;
+#[cfg(test)]
+mod wordings;

@@ -1,11 +1,12 @@
-// Every row of the refusals that exist, met with its place.
-use crate::{ALL_SOULS, prints};
+// Refusals of inputs, files, books and lines, met with their places.
+use crate::{ALL_SOULS, answers, reports};
 use files::read::read_book;
 use files::write::write_book;
 use graphs::link::Link;
 use kinds::name::Name;
-use listing::lines::{record_line, refusal_line};
+use listing::lines::{first_line, long_line, pair_line, record_line, refusal_line};
 use refusals::Refusal;
+use std::alloc::Global;
 
 const BLANK: Name = Name {
     len: 1,
@@ -18,43 +19,86 @@ const LOOP: Link = Link {
     to: 0,
 };
 
+// Whether the import check and the answer both refuse an input, with the same line.
+fn refuses(heap: Global, input: &[u8], line: &[u8]) -> bool {
+    reports(input, line) && answers(heap, input, line)
+}
+
 #[test]
 fn input(rt: HostRuntime) {
-    assert!(rt; prints(&[b'c'; 8193], b"refused 10 at 0\n"));
-    assert!(rt; prints(&[b'c'; 8192], b"refused 11 at 0\n"));
-    assert!(rt; prints(b"", b"refused 11 at 0\n"));
+    assert!(rt; reports(&[b'c'; 8193], b"refused 10 at 0\n"));
+    assert!(rt; reports(&[b'c'; 8192], b"refused 11 at 0\n"));
+    assert!(rt; reports(b"", b"refused 11 at 0\n"));
+    assert!(rt; answers(rt.alloc(), &[b'c'; 8193], b"refused 10 at 0\n"));
+    assert!(rt; answers(rt.alloc(), &[b'c'; 8192], b"refused 23 at 0\n"));
+    assert!(rt; answers(rt.alloc(), b"", b"refused 21 at 0\n"));
+    assert!(rt; answers(rt.alloc(), b"c", b"refused 11 at 0\n"));
 }
 
 #[test]
 fn headings(rt: HostRuntime) {
-    assert!(rt; prints(b"c\n\x02\x00\x01", b"refused 11 at 0\n"));
-    assert!(rt; prints(b"c\n\x02\x00\x02\x00\x01\x00", b"refused 12 at 0\n"));
-    assert!(rt; prints(b"c\n\x02\x00\x02\x00\x02\x00", b"refused 12 at 0\n"));
-    assert!(rt; prints(b"c\n\x03\x00\x01\x00\x01\x00\x00", b"refused 13 at 0\n"));
-    assert!(rt; prints(b"c\n\x02\x00\x01\x00\x01", b"refused 11 at 0\n"));
-    assert!(rt; prints(b"c\n\x02\x00\x01\x00\x03\x00", b"refused 12 at 0\n"));
+    assert!(rt; refuses(rt.alloc(), b"c\n\x02\x00\x01", b"refused 11 at 0\n"));
     assert!(rt;
-        prints(
+        refuses(
+            rt.alloc(),
+            b"c\n\x02\x00\x02\x00\x01\x00",
+            b"refused 12 at 0\n"
+        )
+    );
+    assert!(rt;
+        refuses(
+            rt.alloc(),
+            b"c\n\x02\x00\x02\x00\x02\x00",
+            b"refused 12 at 0\n"
+        )
+    );
+    assert!(rt;
+        refuses(
+            rt.alloc(),
+            b"c\n\x03\x00\x01\x00\x01\x00\x00",
+            b"refused 13 at 0\n"
+        )
+    );
+    assert!(rt; refuses(rt.alloc(), b"c\n\x02\x00\x01\x00\x01", b"refused 11 at 0\n"));
+    assert!(rt;
+        refuses(
+            rt.alloc(),
+            b"c\n\x02\x00\x01\x00\x03\x00",
+            b"refused 12 at 0\n"
+        )
+    );
+    assert!(rt;
+        reports(
             b"c\n\x02\x00\x01\x00\x01\x00",
-            b"entries 0 links 0 bytes 6\n",
+            b"entries 0 links 0 bytes 6\n"
         )
     );
     assert!(rt;
-        prints(
+        answers(
+            rt.alloc(),
+            b"c\n\x02\x00\x01\x00\x01\x00",
+            b"entries 0 pairs 0\n"
+        )
+    );
+    assert!(rt;
+        refuses(
+            rt.alloc(),
             b"c\n\x02\x00\x01\x00\x01\x00\x01\x00\x02",
-            b"refused 11 at 6\n",
+            b"refused 11 at 6\n"
         )
     );
     assert!(rt;
-        prints(
+        refuses(
+            rt.alloc(),
             b"c\n\x02\x00\x01\x00\x01\x00\x02\x00\x01\x00\x01\x00",
-            b"refused 12 at 6\n",
+            b"refused 12 at 6\n"
         )
     );
     assert!(rt;
-        prints(
+        refuses(
+            rt.alloc(),
             b"c\n\x02\x00\x01\x00\x01\x00\x02\x00\x02\x00x",
-            b"refused 11 at 6\n",
+            b"refused 11 at 6\n"
         )
     );
 }
@@ -62,45 +106,58 @@ fn headings(rt: HostRuntime) {
 #[test]
 fn links(rt: HostRuntime) {
     assert!(rt;
-        prints(
+        reports(
             b"c\n\x02\x00\x01\x00\x01\x00\x01\x00\x02\x00x\x03\x00\x03\x00\x00a\x00",
-            b"entries 1 links 1 bytes 18\n",
+            b"entries 1 links 1 bytes 18\n"
         )
     );
     assert!(rt;
-        prints(
+        answers(
+            rt.alloc(),
+            b"c\n\x02\x00\x01\x00\x01\x00\x01\x00\x02\x00x\x03\x00\x03\x00\x00a\x00",
+            b"entries 1 pairs 0\n"
+        )
+    );
+    assert!(rt;
+        refuses(
+            rt.alloc(),
             b"c\n\x02\x00\x01\x00\x01\x00\x01\x00\x02\x00x\x03\x00\x03\x00\x00A\x00",
-            b"refused 15 at 11\n",
+            b"refused 15 at 11\n"
         )
     );
     assert!(rt;
-        prints(
+        refuses(
+            rt.alloc(),
             b"c\n\x02\x00\x01\x00\x01\x00\x01\x00\x02\x00x\x03\x00\x03\x00\x00{\x00",
-            b"refused 15 at 11\n",
+            b"refused 15 at 11\n"
         )
     );
     assert!(rt;
-        prints(
+        refuses(
+            rt.alloc(),
             b"c\n\x02\x00\x01\x00\x01\x00\x01\x00\x02\x00x\x03\x00\x03\x00\x01a\x00",
-            b"refused 15 at 11\n",
+            b"refused 15 at 11\n"
         )
     );
     assert!(rt;
-        prints(
+        refuses(
+            rt.alloc(),
             b"c\n\x02\x00\x01\x00\x01\x00\x01\x00\x02\x00x\x03\x00\x03\x00\x00a\x01",
-            b"refused 15 at 11\n",
+            b"refused 15 at 11\n"
         )
     );
     assert!(rt;
-        prints(
+        refuses(
+            rt.alloc(),
             b"c\n\x02\x00\x01\x00\x01\x00\x01\x00\x02\x00x\x02\x00\x03\x00\x00a\x00",
-            b"refused 13 at 11\n",
+            b"refused 13 at 11\n"
         )
     );
     assert!(rt;
-        prints(
+        refuses(
+            rt.alloc(),
             b"c\n\x02\x00\x01\x00\x01\x00\x01\x00\x02\x00x\x03\x00\x03\x00\x00a\x00\x01\x00\x02\x00y",
-            b"refused 12 at 18\n",
+            b"refused 12 at 18\n"
         )
     );
 }
@@ -109,9 +166,10 @@ fn links(rt: HostRuntime) {
 #[test]
 fn program_room(rt: HostRuntime) {
     assert!(rt;
-        prints(
+        refuses(
+            rt.alloc(),
             b"c\n\x02\x00\x01\x00\x01\x00\x01\x00\x02\x00x\x01\x00\x02\x00x\x01\x00\x02\x00x\x01\x00\x02\x00x\x01\x00\x02\x00x\x01\x00\x02\x00x\x01\x00\x02\x00x\x01\x00\x02\x00x\x01\x00\x02\x00x\x01\x00\x02\x00x\x01\x00\x02\x00x\x01\x00\x02\x00x\x01\x00\x02\x00x\x01\x00\x02\x00x\x01\x00\x02\x00x\x01\x00\x02\x00x\x01\x00\x02\x00x",
-            b"refused 16 at 86\n",
+            b"refused 16 at 86\n"
         )
     );
 }
@@ -186,6 +244,15 @@ fn lines(rt: HostRuntime) {
         Err(Refusal::TextTooShort)
     );
     assert_eq!(rt;
+        first_line(4, 3, &mut out[0..17]),
+        Err(Refusal::TextTooShort)
+    );
+    assert_eq!(rt;
+        pair_line(10, 2, 999, &mut out[0..8]),
+        Err(Refusal::TextTooShort)
+    );
+    assert_eq!(rt; long_line(0, 2, &mut out[0..8]), Err(Refusal::TextTooShort));
+    assert_eq!(rt;
         refusal_line(Refusal::LengthUnfit { at: 6 }, &mut out[0..15]),
         Err(Refusal::TextTooShort)
     );
@@ -196,4 +263,10 @@ fn lines(rt: HostRuntime) {
     assert!(rt; &out[0..16] == b"refused 71 at 0\n".as_slice());
     assert_eq!(rt; refusal_line(Refusal::BytesTooShort, &mut out), Ok(16));
     assert!(rt; &out[0..16] == b"refused 72 at 0\n".as_slice());
+    assert_eq!(rt; first_line(4, 3, &mut out), Ok(18));
+    assert!(rt; &out[0..18] == b"entries 4 pairs 3\n".as_slice());
+    assert_eq!(rt; pair_line(10, 2, 999, &mut out), Ok(9));
+    assert!(rt; &out[0..9] == b"10 2 999\n".as_slice());
+    assert_eq!(rt; long_line(0, 2, &mut out), Ok(9));
+    assert!(rt; &out[0..9] == b"0 2 long\n".as_slice());
 }

@@ -1,38 +1,40 @@
 -- The answer to a wording comes wherever it is due. Assumes nothing.
-use Rattle.std.proofs.Common.{◌≡◌, ℕ, ◌-◌, ◌<◌, ◌≤◌, true, ◌⊎◌, List, length, take, Ok, Err, Result, sym, refl, ap, ◌∙◌, subst, inl, inr, arith, length-take}
+use Rattle.std.proofs.Common.{◌≡◌, ℕ, ◌<◌, ◌≤◌, true, List, length, take, Some, None, Option, Ok, Err, Result, MatchOption, ok_or, sym, refl, ap, ◌∙◌, subst, arith, length-take}
 use Rattle.std.proofs.lemmas.List.{ext_get_or, get_or-take}
-use Rattle.std.proofs.lemmas.Bool.{cases_lt}
 use Rattle.refusals.specs.declared.Refusal.{Refusal}
 use Rattle.refusals.specs.declared.Refusal.TheVariants.{NotAnExpression, TooManyParts}
 use Rattle.expressions.specs.declared.part.Part.TheVariants.{Epsilon}
+use Rattle.expressions.specs.declared.draft.Draft.{Draft}
 use Rattle.expressions.specs.declared.part.Parts.{Parts}
 use Rattle.expressions.specs.Exprs.{Expr, size}
 use Rattle.expressions.specs.Grammar.{most_bytes, most_parts, Expression}
-use Rattle.expressions.specs.Numbering.{parts_from, part_expr, well_formed, Stored}
-use Rattle.expressions.specs.Reads.{Kept}
-use Rattle.expressions.specs.Wordings.{Fails, Accepted, Refused, too_long, no_expression, too_many_parts, Parsed, Decided}
-use Rattle.expressions.proofs.Numbered.{length-parts, decodes, formed_parts}
-use Rattle.expressions.proofs.Whole.{Whole}
+use Rattle.expressions.specs.Numbering.{parts_from, well_formed}
+use Rattle.expressions.specs.Reads.{Kept, Whole}
+use Rattle.expressions.specs.Storing.{parts_of, Stored}
+use Rattle.expressions.specs.Wordings.{Fails, Refused, too_long, no_expression, too_many_parts, Parsed, Decided}
+use Rattle.expressions.proofs.Numbered.{length-parts, some, decodes, formed_parts}
 
--- parts of which none was lost are stored
-stored : (e : Expr) (s : Parts) → s.count ≤ most_parts → Kept s (parts_from 0 e) → Stored e s
-stored e s few k =
+-- where none was lost, the parts of the expression are at the front
+pub front : (e : Expr) (s : Draft) → s.count ≤ most_parts → Kept s (parts_from 0 e) → take s.count s.list ≡ parts_from 0 e
+front e s few k =
     let long : length s.list ≡ most_parts = k.room in
-    let n : s.count ≡ size e = k.counted ∙ length-parts 0 e in
     let m : length (take s.count s.list) ≡ s.count = simp length-take (omega arith) in
-    let p : take s.count s.list ≡ parts_from 0 e =
     ext_get_or Epsilon (take s.count s.list) (parts_from 0 e) (m ∙ k.counted)
-    (λ i h. get_or-take s.count s.list i Epsilon (omega arith) ∙ k.kept i (omega (arith, k.counted)) (omega arith)) in
-    record { count = n; parts = p; formed = subst (λ l. well_formed 0 l ≡ true) (sym p) (formed_parts 0 e); decodes = subst (λ j. part_expr j (s.count - 1) ≡ e) (sym p) (subst (λ j. part_expr (parts_from 0 e) (j - 1) ≡ e) (sym n) (decodes e)) }
+    (λ i h. get_or-take s.count s.list i Epsilon (omega arith) ∙ k.kept i (omega (arith, k.counted)) (omega arith))
+
+-- and can be stored
+pub front_some : (e : Expr) (s : Draft) → s.count ≤ most_parts → Kept s (parts_from 0 e) → 1 ≤ length (take s.count s.list)
+front_some e s few k = rw (front e s few k, length-parts 0 e) (some e)
+
+pub front_formed : (e : Expr) (s : Draft) → s.count ≤ most_parts → Kept s (parts_from 0 e) → well_formed 0 (take s.count s.list) ≡ true
+front_formed e s few k = rw (front e s few k) (formed_parts 0 e)
+
+pub stored : (e : Expr) (p : Parts) → parts_of p ≡ parts_from 0 e → Stored e p
+stored e p h = record { parts = h; decodes = rw (h, length-parts 0 e) (decodes e) }
 
 -- a text goes wrong at one place only
 one_place : (t : List ℕ) (i j : ℕ) → Fails t i → Fails t j → i ≡ j
-one_place t i j x y = by_order (cases_lt i j) (cases_lt j i)
-  where
-    by_order : (i < j) ⊎ (j ≤ i) → (j < i) ⊎ (i ≤ j) → i ≡ j
-    by_order (inl lt) _ = absurd (x.longest j lt y.within y.begins)
-    by_order (inr ge) (inl lt) = absurd (y.longest i lt x.within x.begins)
-    by_order (inr ge) (inr le) = omega arith
+one_place t i j x y = grind (arith, x.longest j, y.longest i, x.within, y.within, x.begins, y.begins)
 
 -- refusals do not contradict each other, nor an expression within the limits
 refused_once : {t : List ℕ} {x y : Refusal} → Refused t x → Refused t y → x ≡ y
@@ -62,12 +64,11 @@ decided_by t (Err x) h = record {
 }
 
 -- a whole text that was read, within the limits and beyond them
-pub accepted : (t : List ℕ) (s : Parts) → length t ≤ most_bytes → s.count ≤ most_parts → Whole t s → Accepted t s
-accepted t s short few w =
-    let n : s.count ≡ size w.0 = w.2.counted ∙ length-parts 0 w.0 in
-    record { expr = w.0; means = w.1; short = short; few = omega arith; stored = stored w.0 s few w.2 }
-
-pub too_many : (t : List ℕ) (s : Parts) → length t ≤ most_bytes → most_parts < s.count → Whole t s → Refused t TooManyParts
-too_many t s short many w =
+pub read_is : (t : List ℕ) (s : Draft) (o : Option Parts) → length t ≤ most_bytes → Whole t s → MatchOption o (most_parts < s.count) (λ p. (e : Expr) → Kept s (parts_from 0 e) → Stored e p) → Parsed t (ok_or o TooManyParts)
+read_is t s None short w h =
     let n : s.count ≡ size w.0 = w.2.counted ∙ length-parts 0 w.0 in
     too_many_parts short w.1 (omega arith)
+read_is t s (Some p) short w h =
+    let x = h w.0 w.2 in
+    let n : length (parts_of p) ≡ size w.0 = ap length x.parts ∙ length-parts 0 w.0 in
+    record { expr = w.0; means = w.1; short = short; few = omega (arith, p.few, length-take p.count p.list); stored = x }

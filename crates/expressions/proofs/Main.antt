@@ -1,36 +1,29 @@
 -- The machine's answer is right.
-use Rattle.std.proofs.Common.{◌≡◌, ℕ, zero, suc, ◌+◌, ◌<◌, ◌≤◌, List, [], ◌∷◌, ◌++◌, length, take, sym, refl, ap, ◌∙◌, subst, append_assoc, append-nil, le_of_suc-le-suc, not-suc-le-zero, arith, length-append, take_at}
+use Rattle.std.proofs.Common.{◌≡◌, ℕ, suc, ◌+◌, ◌-◌, ◌<◌, ◌≤◌, List, [], ◌∷◌, ◌++◌, length, take, sym, refl, ap, ◌∙◌, subst, append_assoc, append-nil, arith, length-append, take_at}
+use Rattle.std.proofs.Math.Seq.{take-append-add}
 use Rattle.expressions.specs.Exprs.{Expr}
 use Rattle.expressions.specs.Grammar.{Expression}
-use Rattle.expressions.specs.Machine.{go, Answer, good, bad, start}
+use Rattle.expressions.specs.Machine.{go, good, bad, start}
 use Rattle.expressions.specs.Wordings.{Means, Begins, Fails}
 use Rattle.expressions.proofs.Complete.{complete}
 use Rattle.expressions.proofs.Sound.{right, Right, Stuck}
-
-same_good : (e f : Expr) → good e ≡ good f → e ≡ f
-same_good e f h = cc
-
-apart : (a : Answer) (e : Expr) (m : ℕ) → a ≡ good e → a ≡ bad m → ⊥
-apart a e m h k = let z : ◌≡◌ {A = ℕ} 0 1 = cc in omega arith
-
-take_past : (a : List ℕ) (c : ℕ) (b : List ℕ) (k : ℕ) → length a < k → (j : ℕ) × (take k (a ++ (c ∷ b)) ≡ a ++ (c ∷ take j b))
-take_past [] c b zero h = absurd (not-suc-le-zero h)
-take_past [] c b (suc k) h = (k, refl)
-take_past (x ∷ a) c b zero h = absurd (not-suc-le-zero h)
-take_past (x ∷ a) c b (suc k) h = let y = take_past a c b k (le_of_suc-le-suc h) in (y.0, ap (λ w. x ∷ w) y.1)
 
 longest_of :
     (a b : List ℕ) (m : ℕ) → m ≡ 0 + length a → Stuck start a b 0 m → (k : ℕ) → m < k → k ≤ length (a ++ b) → Begins (take k (a ++ b)) → ⊥
 longest_of a [] m e h k lt le x = omega (arith, simp append-nil at le)
 longest_of a (c ∷ b) m e h k lt le x =
-    let y = take_past a c b k (omega arith) in
-    let d : Expression (a ++ (c ∷ (take y.0 b ++ x.0))) x.1 = simp append_assoc at (rw y.1 at x.2) in
-    apart (go start (a ++ (c ∷ (take y.0 b ++ x.0))) 0) x.1 m (complete _ x.1 d) (h (take y.0 b ++ x.0))
+    let j : ℕ = k - length a - 1 in
+    let n : length a + suc j ≡ k = omega arith in
+    let y : take k (a ++ (c ∷ b)) ≡ a ++ (c ∷ take j b) = subst (λ i. take i (a ++ (c ∷ b)) ≡ a ++ (c ∷ take j b)) n (take-append-add a (c ∷ b) (suc j)) in
+    let d : Expression (a ++ (c ∷ (take j b ++ x.0))) x.1 = simp append_assoc at (rw y at x.2) in
+    let good_one = complete _ x.1 d in
+    let bad_one = h (take j b ++ x.0) in
+    cc
 
 pub is_meant : (t : List ℕ) (e : Expr) → go start t 0 ≡ good e → Means t e
 is_meant t e h = record {
   stands = subst (Right start [] t 0) h (right t start [] 0 ([], [], [], refl, refl, refl, refl));
-  only = λ f d. same_good f e (sym (complete t f d) ∙ h);
+  only = λ f d. let y = complete t f d in cc;
 }
 
 wrong_at :
@@ -48,4 +41,4 @@ wrong_at t a b m e n x h no_one =
 pub is_wrong : (t : List ℕ) (m : ℕ) → go start t 0 ≡ bad m → Fails t m
 is_wrong t m h =
     let r = subst (Right start [] t 0) h (right t start [] 0 ([], [], [], refl, refl, refl, refl)) in
-    wrong_at t r.0 r.1 m r.2 r.3 r.4 r.5 (λ e d. apart (go start t 0) e m (complete t e d) h)
+    wrong_at t r.0 r.1 m r.2 r.3 r.4 r.5 (λ e d. let y = complete t e d in cc)

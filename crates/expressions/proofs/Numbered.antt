@@ -1,7 +1,8 @@
 -- The parts of an expression stand for it. Assumes nothing.
-use Rattle.std.proofs.Common.{◌≡◌, ℕ, zero, suc, ◌+◌, ◌-◌, ◌<◌, true, List, [], ◌∷◌, ◌++◌, length, get_or, sym, refl, ap, ◌∙◌, subst, append_assoc, append-nil, arith, length-append}
+use Rattle.std.proofs.Common.{◌≡◌, ℕ, zero, suc, ◌+◌, ◌-◌, ◌<◌, true, ◌&&◌, add-zero, List, [], ◌∷◌, ◌++◌, length, get_or, sym, refl, ap, ◌∙◌, subst, append_assoc, append-nil, arith, length-append}
 use Rattle.std.proofs.lemmas.List.{get_or_append_left, get_or_at}
-use Rattle.std.proofs.lemmas.Bool.{and_parts, and_from, lt-ltb, ltb-true}
+use Rattle.std.proofs.lemmas.Bool.Decides.{nat_tests}
+use Rattle.std.proofs.lemmas.Bool.{and_parts}
 use Rattle.expressions.specs.declared.part.Part.{Part}
 use Rattle.expressions.specs.declared.part.Part.TheVariants.{Epsilon, Letter, Either, Join, Plus, Star, Same, Differ}
 use Rattle.expressions.specs.Exprs.{Expr, epsilon, letter, either, join, plus, star, same, differ, size}
@@ -32,22 +33,6 @@ parts_sign k e plus_sign = refl
 parts_sign k e star_sign = refl
 parts_sign k e same_sign = refl
 parts_sign k e differ_sign = refl
-
-pub parts_epsilon : (k : ℕ) → parts_from k epsilon ≡ Epsilon ∷ []
-unfolding parts_from
-parts_epsilon k = refl
-
-pub parts_letter : (c k : ℕ) → parts_from k (letter c) ≡ Letter c ∷ []
-unfolding parts_from
-parts_letter c k = refl
-
-pub parts_either : (k : ℕ) (e f : Expr) → parts_from k (either e f) ≡ parts_from k e ++ (parts_from (k + size e) f ++ (Either (k + size e - 1) ∷ []))
-unfolding parts_from
-parts_either k e f = refl
-
-pub parts_join : (k : ℕ) (e f : Expr) → parts_from k (join e f) ≡ parts_from k e ++ (parts_from (k + size e) f ++ (Join (k + size e - 1) ∷ []))
-unfolding parts_from
-parts_join k e f = refl
 
 -- the expressions of the parts within an expression, before its own
 pub inside : Expr → List Expr
@@ -84,8 +69,7 @@ some e = omega (arith, length-inside e)
 last_is : (es : List Expr) (e : Expr) (more : List Expr) (k : ℕ) → k ≡ length es + size e - 1 → expr_at ((es ++ all e) ++ more) k ≡ e
 last_is es e more k h =
     let n : length (es ++ inside e) ≡ k = length-append es (inside e) ∙ omega (arith, length-inside e) in
-    ap (λ l. expr_at l k) (append_assoc es (all e) more ∙ ap (λ l. es ++ l) (append_assoc (inside e) (e ∷ []) more) ∙ sym (append_assoc es (inside e) (e ∷ more)))
-    ∙ get_or_at (es ++ inside e) e more epsilon k n
+    simp append_assoc (simp append_assoc at (get_or_at (es ++ inside e) e more epsilon k n))
 
 -- a part that is made of the one before, and one that is made of two
 one_more : (es : List Expr) (a : Expr) → expr_at (es ++ all a) (length (es ++ all a) - 1) ≡ a
@@ -95,19 +79,11 @@ two_more : (es : List Expr) (a b : Expr) (k : ℕ) → k ≡ length es → expr_
 two_more es a b k e = last_is es a (all b) (k + size a - 1) (rw e refl)
 
 after_one : (es : List Expr) (a : Expr) (f : Expr → Expr) (P : List Part) → exprs_after ((es ++ all a) ++ (f (expr_at (es ++ all a) (length (es ++ all a) - 1)) ∷ [])) P ≡ exprs_after (es ++ (all a ++ (f a ∷ []))) P
-after_one es a f P = ap (λ x. exprs_after ((es ++ all a) ++ (f x ∷ [])) P) (one_more es a) ∙ ap (λ l. exprs_after l P) (append_assoc es (all a) (f a ∷ []))
+after_one es a f P = rw (one_more es a, append_assoc es)
 
 after_two : (es : List Expr) (k : ℕ) (a b : Expr) (f : Expr → Expr → Expr) (P : List Part) → k ≡ length es → exprs_after (((es ++ all a) ++ all b) ++ (f (expr_at ((es ++ all a) ++ all b) (k + size a - 1)) (expr_at ((es ++ all a) ++ all b) (length ((es ++ all a) ++ all b) - 1)) ∷ [])) P ≡ exprs_after (es ++ ((all a ++ all b) ++ (f a b ∷ []))) P
 after_two es k a b f P e =
-    ap (λ x. exprs_after (((es ++ all a) ++ all b) ++ (f x (expr_at ((es ++ all a) ++ all b) (length ((es ++ all a) ++ all b) - 1)) ∷ [])) P) (two_more es a b k e)
-    ∙ ap (λ x. exprs_after (((es ++ all a) ++ all b) ++ (f a x ∷ [])) P) (one_more (es ++ all a) b)
-    ∙ ap (λ l. exprs_after l P) (simp append_assoc)
-
-sign_first : (k : ℕ) (a : Expr) (x : Part) (P : List Part) → (parts_from k a ++ (x ∷ [])) ++ P ≡ parts_from k a ++ (x ∷ P)
-sign_first k a x P = append_assoc (parts_from k a) (x ∷ []) P
-
-halves_first : (k m : ℕ) (a b : Expr) (x : Part) (P : List Part) → (parts_from k a ++ (parts_from m b ++ (x ∷ []))) ++ P ≡ parts_from k a ++ (parts_from m b ++ (x ∷ P))
-halves_first k m a b x P = append_assoc (parts_from k a) (parts_from m b ++ (x ∷ [])) P ∙ ap (λ l. parts_from k a ++ l) (append_assoc (parts_from m b) (x ∷ []) P)
+    rw (two_more es a b k e, one_more (es ++ all a) b) (simp append_assoc)
 
 pub exprs_after_lem : (es : List Expr) (k : ℕ) (e : Expr) (P : List Part) → k ≡ length es → exprs_after es (parts_from k e ++ P) ≡ exprs_after (es ++ all e) P
 unfolding parts_from exprs_after inside
@@ -116,15 +92,17 @@ exprs_after_lem es k (letter c) P h = refl
 exprs_after_lem es k (either a b) P h =
     let n : k + size a ≡ length (es ++ all a) = simp length-append (omega (arith, length-inside a)) in
     let x : Part = Either (k + size a - 1) in
-    ap (exprs_after es) (halves_first k (k + size a) a b x P) ∙ exprs_after_lem es k a (parts_from (k + size a) b ++ (x ∷ P)) h ∙ exprs_after_lem (es ++ all a) (k + size a) b (x ∷ P) n ∙ after_two es k a b either P h
+    rw (append_assoc (parts_from k a), append_assoc (parts_from (k + size a) b))
+    (exprs_after_lem es k a (parts_from (k + size a) b ++ (x ∷ P)) h ∙ exprs_after_lem (es ++ all a) (k + size a) b (x ∷ P) n ∙ after_two es k a b either P h)
 exprs_after_lem es k (join a b) P h =
     let n : k + size a ≡ length (es ++ all a) = simp length-append (omega (arith, length-inside a)) in
     let x : Part = Join (k + size a - 1) in
-    ap (exprs_after es) (halves_first k (k + size a) a b x P) ∙ exprs_after_lem es k a (parts_from (k + size a) b ++ (x ∷ P)) h ∙ exprs_after_lem (es ++ all a) (k + size a) b (x ∷ P) n ∙ after_two es k a b join P h
-exprs_after_lem es k (plus a) P h = ap (exprs_after es) (sign_first k a Plus P) ∙ exprs_after_lem es k a (Plus ∷ P) h ∙ after_one es a plus P
-exprs_after_lem es k (star a) P h = ap (exprs_after es) (sign_first k a Star P) ∙ exprs_after_lem es k a (Star ∷ P) h ∙ after_one es a star P
-exprs_after_lem es k (same a) P h = ap (exprs_after es) (sign_first k a Same P) ∙ exprs_after_lem es k a (Same ∷ P) h ∙ after_one es a same P
-exprs_after_lem es k (differ a) P h = ap (exprs_after es) (sign_first k a Differ P) ∙ exprs_after_lem es k a (Differ ∷ P) h ∙ after_one es a differ P
+    rw (append_assoc (parts_from k a), append_assoc (parts_from (k + size a) b))
+    (exprs_after_lem es k a (parts_from (k + size a) b ++ (x ∷ P)) h ∙ exprs_after_lem (es ++ all a) (k + size a) b (x ∷ P) n ∙ after_two es k a b join P h)
+exprs_after_lem es k (plus a) P h = rw (append_assoc (parts_from k a)) (exprs_after_lem es k a (Plus ∷ P) h ∙ after_one es a plus P)
+exprs_after_lem es k (star a) P h = rw (append_assoc (parts_from k a)) (exprs_after_lem es k a (Star ∷ P) h ∙ after_one es a star P)
+exprs_after_lem es k (same a) P h = rw (append_assoc (parts_from k a)) (exprs_after_lem es k a (Same ∷ P) h ∙ after_one es a same P)
+exprs_after_lem es k (differ a) P h = rw (append_assoc (parts_from k a)) (exprs_after_lem es k a (Differ ∷ P) h ∙ after_one es a differ P)
 
 -- the last part of an expression stands for it
 pub decodes : (e : Expr) → part_expr (parts_from 0 e) (size e - 1) ≡ e
@@ -134,39 +112,20 @@ decodes e =
     ap (λ l. expr_at l (size e - 1)) p ∙ get_or_at (inside e) e [] epsilon (size e - 1) (omega (arith, length-inside e))
 
 -- the parts of an expression are made of parts before them
-formed_append : (q : ℕ) (xs ys : List Part) → well_formed q xs ≡ true → well_formed (q + length xs) ys ≡ true → well_formed q (xs ++ ys) ≡ true
-formed_append q [] ys h k = subst (λ j. well_formed j ys ≡ true) (omega arith) k
-formed_append q (x ∷ xs) ys h k =
-    let p = and_parts (stands_on q x) (well_formed (q + 1) xs) h in
-    and_from (stands_on q x) (well_formed (q + 1) (xs ++ ys)) p.0 (formed_append (q + 1) xs ys p.1 (subst (λ j. well_formed j ys ≡ true) (omega arith) k))
-
-formed_one : (q : ℕ) (x : Part) → stands_on q x ≡ true → well_formed q (x ∷ []) ≡ true
-formed_one q x h = and_from (stands_on q x) true h refl
-
-formed_sign : (q : ℕ) (a : Expr) (x : Part) → ((k : ℕ) → 0 < k → stands_on k x ≡ true) → well_formed q (parts_from q a) ≡ true → well_formed q (parts_from q a ++ (x ∷ [])) ≡ true
-formed_sign q a x s h =
-    let n : length (parts_from q a) ≡ size a = length-parts q a in
-    formed_append q (parts_from q a) (x ∷ []) h (formed_one (q + length (parts_from q a)) x (s (q + length (parts_from q a)) (omega (arith, some a))))
-
-formed_two : (q : ℕ) (a b : Expr) (x : Part) → ((k : ℕ) → q + size a < k → stands_on k x ≡ true) → well_formed q (parts_from q a) ≡ true → well_formed (q + size a) (parts_from (q + size a) b) ≡ true → well_formed q (parts_from q a ++ (parts_from (q + size a) b ++ (x ∷ []))) ≡ true
-formed_two q a b x s h k =
-    let n : length (parts_from q a) ≡ size a = length-parts q a in
-    let m : length (parts_from (q + size a) b) ≡ size b = length-parts (q + size a) b in
-    formed_append q (parts_from q a) (parts_from (q + size a) b ++ (x ∷ [])) h
-    (subst (λ j. well_formed (q + j) (parts_from (q + size a) b ++ (x ∷ [])) ≡ true) (sym n)
-    (formed_append (q + size a) (parts_from (q + size a) b) (x ∷ []) k
-    (formed_one (q + size a + length (parts_from (q + size a) b)) x (s (q + size a + length (parts_from (q + size a) b)) (omega (arith, some b))))))
+formed_append : (q : ℕ) (xs ys : List Part) → well_formed q (xs ++ ys) ≡ (well_formed q xs && well_formed (q + length xs) ys)
+formed_append q [] ys = rw add-zero
+formed_append q (x ∷ xs) ys = grind (arith, formed_append (q + 1) xs ys)
 
 pub formed_parts : (q : ℕ) (e : Expr) → well_formed q (parts_from q e) ≡ true
 unfolding parts_from
 formed_parts q epsilon = refl
 formed_parts q (letter c) = refl
-formed_parts q (either a b) = formed_two q a b (Either (q + size a - 1)) (λ k h. lt-ltb _ _ (omega (arith, some a))) (formed_parts q a) (formed_parts (q + size a) b)
-formed_parts q (join a b) = formed_two q a b (Join (q + size a - 1)) (λ k h. lt-ltb _ _ (omega (arith, some a))) (formed_parts q a) (formed_parts (q + size a) b)
-formed_parts q (plus a) = formed_sign q a Plus (λ k h. lt-ltb 0 k h) (formed_parts q a)
-formed_parts q (star a) = formed_sign q a Star (λ k h. lt-ltb 0 k h) (formed_parts q a)
-formed_parts q (same a) = formed_sign q a Same (λ k h. lt-ltb 0 k h) (formed_parts q a)
-formed_parts q (differ a) = formed_sign q a Differ (λ k h. lt-ltb 0 k h) (formed_parts q a)
+formed_parts q (either a b) = grind (arith, nat_tests, formed_append, length-parts, formed_parts q a, formed_parts (q + size a) b, some a, some b)
+formed_parts q (join a b) = grind (arith, nat_tests, formed_append, length-parts, formed_parts q a, formed_parts (q + size a) b, some a, some b)
+formed_parts q (plus a) = grind (arith, nat_tests, formed_append, length-parts, formed_parts q a, some a)
+formed_parts q (star a) = grind (arith, nat_tests, formed_append, length-parts, formed_parts q a, some a)
+formed_parts q (same a) = grind (arith, nat_tests, formed_append, length-parts, formed_parts q a, some a)
+formed_parts q (differ a) = grind (arith, nat_tests, formed_append, length-parts, formed_parts q a, some a)
 
 -- what is stored at each number
 kept_before : (es : List Expr) (xs : List Part) (i : ℕ) → i < length es → expr_at (exprs_after es xs) i ≡ expr_at es i
@@ -179,12 +138,12 @@ kept_before es (x ∷ xs) i h =
 made_same : (f h : ℕ → Expr) (q : ℕ) (x : Part) → stands_on q x ≡ true → ((i : ℕ) → i < q → f i ≡ h i) → made f q x ≡ made h q x
 made_same f h q Epsilon s e = refl
 made_same f h q (Letter c) s e = refl
-made_same f h q (Either l) s e = let k = ltb-true _ _ s in cc (e l (omega arith), e (q - 1) (omega arith))
-made_same f h q (Join l) s e = let k = ltb-true _ _ s in cc (e l (omega arith), e (q - 1) (omega arith))
-made_same f h q Plus s e = let k = ltb-true _ _ s in ap plus (e (q - 1) (omega arith))
-made_same f h q Star s e = let k = ltb-true _ _ s in ap star (e (q - 1) (omega arith))
-made_same f h q Same s e = let k = ltb-true _ _ s in ap same (e (q - 1) (omega arith))
-made_same f h q Differ s e = let k = ltb-true _ _ s in ap differ (e (q - 1) (omega arith))
+made_same f h q (Either l) s e = grind (arith, nat_tests, e l, e (q - 1))
+made_same f h q (Join l) s e = grind (arith, nat_tests, e l, e (q - 1))
+made_same f h q Plus s e = grind (arith, nat_tests, e (q - 1))
+made_same f h q Star s e = grind (arith, nat_tests, e (q - 1))
+made_same f h q Same s e = grind (arith, nat_tests, e (q - 1))
+made_same f h q Differ s e = grind (arith, nat_tests, e (q - 1))
 
 made_at : (es : List Expr) (xs : List Part) (j : ℕ) → j < length xs → well_formed (length es) xs ≡ true → expr_at (exprs_after es xs) (length es + j) ≡ made (expr_at (exprs_after es xs)) (length es + j) (get_or xs j Epsilon)
 unfolding exprs_after

@@ -1,8 +1,7 @@
 -- The numbering of parts: which parts an expression is stored as, and which expression each of some parts stands for. Assumes nothing.
-use Rattle.std.specs.Prelude.{◌≡◌, ℕ, ◌+◌, ◌-◌, Bool, true, ◌&&◌, List, [], ◌∷◌, ◌++◌, length, take, nat_lt, slice_index_or}
+use Rattle.std.specs.Prelude.{ℕ, ◌+◌, ◌-◌, Bool, true, ◌&&◌, List, [], ◌∷◌, ◌++◌, length, nat_lt, slice_index_or}
 use Rattle.expressions.specs.declared.part.Part.{Part}
 use Rattle.expressions.specs.declared.part.Part.TheVariants.{Epsilon, Letter, Either, Join, Plus, Star, Same, Differ}
-use Rattle.expressions.specs.declared.part.Parts.{Parts}
 use Rattle.expressions.specs.Exprs.{Expr, epsilon, letter, either, join, plus, star, same, differ, size}
 
 -- the parts of an expression, numbered from k: all within the left half, then all within the right, then the part made of them
@@ -55,10 +54,3 @@ stands_on q Differ = nat_lt 0 q
 abbrev pub well_formed : ℕ → List Part → Bool
 well_formed q [] = true
 well_formed q (x ∷ xs) = stands_on q x && well_formed (q + 1) xs
-
--- an expression is stored: its parts lie at the front of the list in their order, each made of parts before it, and the last of them stands for it
-pub record Stored (e : Expr) (s : Parts) : Type 0 where
-  pub count : s.count ≡ size e
-  pub parts : take s.count s.list ≡ parts_from 0 e
-  pub formed : well_formed 0 (take s.count s.list) ≡ true
-  pub decodes : part_expr (take s.count s.list) (s.count - 1) ≡ e

@@ -5,7 +5,7 @@ use Rattle.refusals.specs.declared.Refusal.TheVariants.{WordingTooLong, NotAnExp
 use Rattle.expressions.specs.declared.part.Parts.{Parts}
 use Rattle.expressions.specs.Exprs.{Expr, size}
 use Rattle.expressions.specs.Grammar.{most_bytes, most_parts, Expression}
-use Rattle.expressions.specs.Numbering.{Stored}
+use Rattle.expressions.specs.Storing.{Stored}
 
 -- the text stands for an expression, and for no other
 pub record Means (t : List ℕ) (e : Expr) : Type 0 where

@@ -1,9 +1,10 @@
 // The wording of a question, read as an expression.
 ghost use Rattle.std.specs.Prelude.{◌≡◌, ℕ};
 ghost use Rattle.expressions.specs.Wordings.{Decided, Parsed};
+ghost use Rattle.refusals.specs.declared.Refusal.TheVariants.{NotAnExpression};
 
-use crate::part::{MOST_PARTS, Parts};
-use crate::reader::{SyntaxError, expression};
+use crate::part::Parts;
+use crate::reader::{SyntaxError, read};
 use refusals::Refusal;
 
 // A wording has at most so many bytes.
@@ -17,11 +18,13 @@ pub fn parse(text: &[u8]) -> Result<Parts, Refusal>
     if text.len() > MOST_BYTES {
         return Err(Refusal::WordingTooLong);
     }
-    let mut parts = Parts::new();
-    match expression(text, 0, &mut parts) {
-        Ok(at) if at < text.len() => Err(Refusal::NotAnExpression { at }),
-        Ok(_) if parts.count > MOST_PARTS => Err(Refusal::TooManyParts),
-        Ok(_) => Ok(parts),
-        Err(SyntaxError { at }) => Err(Refusal::NotAnExpression { at }),
+    read(text)?.finish().ok_or(Refusal::TooManyParts)
+}
+
+impl From<SyntaxError> for Refusal {
+    ghost from_gives = { λ e r. r ≡ NotAnExpression e.at };
+
+    fn from(e: SyntaxError) -> Refusal {
+        Refusal::NotAnExpression { at: e.at }
     }
 }

@@ -1,7 +1,7 @@
 // The parts of an expression, as they are stored.
-ghost use Rattle.std.specs.Prelude.{◌≡◌, ℕ, ◌+◌, ◌-◌, ◌*◌, ◌<◌, []};
-ghost use Rattle.expressions.specs.Grammar.{most_bytes};
-ghost use Rattle.expressions.specs.Reads.{Kept, Pushed};
+ghost use Rattle.std.specs.Prelude.{◌≡◌, ℕ, ◌≤◌, true, length, take};
+ghost use Rattle.expressions.specs.Grammar.{most_parts};
+ghost use Rattle.expressions.specs.Numbering.{well_formed};
 
 // An expression has at most so many parts.
 pub const MOST_PARTS: usize = 32;
@@ -19,40 +19,36 @@ pub enum Part {
     Differ,
 }
 
-// The parts of an expression in their order, at the front of the list. While a text is read the count goes on past the list, where nothing more is kept.
+// The parts of an expression in their order, each made of parts before it. They lie at the front of a list that has room for the most, as nothing is allocated.
 #[derive(Clone, Copy)]
 pub struct Parts {
-    pub list: [Part; MOST_PARTS],
-    pub count: usize,
+    list: [Part; MOST_PARTS],
+    count: usize,
+    pub ghost few: { count ≤ most_parts },
+    pub ghost some: { 1 ≤ length (take count list) },
+    pub ghost formed: { well_formed 0 (take count list) ≡ true },
 }
 
 impl Parts {
-    pub(crate) fn new() -> Self
-        ensures { Kept result [] }
+    ghost use Rattle.expressions.specs.Storing.{parts_of};
+
+    // Those at the front of a list.
+    pub(crate) fn new(list: [Part; MOST_PARTS], count: usize) -> Self
+        requires few { count ≤ most_parts }
+        requires some { 1 ≤ length (take count list) }
+        requires formed { well_formed 0 (take count list) ≡ true }
+        ensures { parts_of result ≡ take count list }
     {
-        Parts {
-            list: [Part::Epsilon; MOST_PARTS],
-            count: 0,
-        }
+        Parts { list, count }
     }
 
-    // One part more.
-    pub(crate) fn push(&mut self, part: Part)
-        requires { self.old.count < 2 * most_bytes }
-        ensures count { self.new.count ≡ self.old.count + 1 }
-        ensures pushed { Pushed self.old self.new part }
+    // The parts, in their order.
+    pub fn as_slice(&self) -> &[Part]
+        ensures front { result.now ≡ parts_of self.now }
+        ensures some { 1 ≤ length result.now }
+        ensures few { length result.now ≤ most_parts }
+        ensures formed { well_formed 0 result.now ≡ true }
     {
-        if self.count < MOST_PARTS {
-            self.list[self.count] = part;
-        }
-        self.count += 1;
-    }
-
-    // The number of the part that came last.
-    pub(crate) fn last(&self) -> usize
-        requires { 0 < self.now.count }
-        ensures { result ≡ self.now.count - 1 }
-    {
-        self.count - 1
+        &self.list[..self.count]
     }
 }

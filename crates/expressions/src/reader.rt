@@ -1,121 +1,151 @@
-// The reader: expression, run, item and atom, each from an offset of the text, call each other and leave the parts that they have read.
-// Each answers the offset behind what it has read, or where the text goes wrong.
-ghost use Rattle.std.specs.Prelude.{◌≡◌, ℕ, ◌*◌, ◌<◌, ◌≤◌, length, MatchOption, MatchResult, slice_index};
+// The reader of a text: expression, run, item and atom call each other and leave the parts that they have read.
+// Each moves on behind what it has read, or tells where the text goes wrong.
+ghost use Rattle.std.specs.Prelude.{◌≡◌, ℕ, ◌*◌, ◌<◌, ◌≤◌, length, MatchOption, MatchResult, slice_index, []};
 ghost use Rattle.expressions.specs.Grammar.{most_bytes};
-ghost use Rattle.expressions.specs.Reads.{Next, NoSign, SignPart, Closed, Unclosed, AtomTo, ItemTo, RunTo, ExpressionTo, ItemLost, RunLost, ExpressionLost};
+ghost use Rattle.expressions.specs.Reads.{Kept, Next, NoSign, SignPart, Closed, Unclosed, AtomRead, ItemRead, RunRead, ExpressionRead, ItemLost, RunLost, ExpressionLost, Whole};
+ghost use Rattle.expressions.specs.Wordings.{Fails};
 
-use crate::part::{Part, Parts};
+use crate::draft::Draft;
+use crate::part::Part;
 
 // Where a text goes wrong: no expression begins with more of it.
+#[derive(Drop)]
 pub(crate) struct SyntaxError {
     pub(crate) at: usize,
 }
 
-// The next byte of the text, as a char.
-fn peek(text: &[u8], at: usize) -> Option<char>
-    ensures { MatchOption result (length text.now ≤ at) (λ c. (at < length text.now) × (c ≡ slice_index text.now at)) }
-{
-    if at < text.len() {
-        Some(char::from(text[at]))
-    } else {
-        None
-    }
+// A text, how far it is read, and the parts so far: two for each byte at most.
+#[derive(Drop)]
+struct Reader<'a> {
+    text: &'a [u8],
+    at: usize,
+    draft: Draft,
+    ghost short: { length text.now ≤ most_bytes },
+    ghost within: { at ≤ length text.now },
+    ghost room: { draft.count ≤ 2 * at },
 }
 
-// Runs with `|` between them.
-#[cycle(reader)]
-pub(crate) fn expression(text: &[u8], from: usize, parts: &mut Parts) -> Result<usize, SyntaxError>
-    requires short { length text.now ≤ most_bytes }
-    requires within { from ≤ length text.now }
-    requires room { parts.old.count ≤ 2 * from }
-    ensures { MatchResult result (ExpressionTo text.now from parts.old parts.new) (λ e. ExpressionLost text.now from e.at) }
-{
-    let mut at = run(text, from, parts)?;
-    while let Some('|') = peek(text, at) {
-        let left = parts.last();
-        at = run(text, at + 1, parts)?;
-        parts.push(Part::Either { left });
-    }
-    Ok(at)
-}
+impl Reader<'_> {
+    ghost use Rattle.expressions.specs.Reader.{Reads};
 
-// Items side by side.
-#[cycle(reader)]
-fn run(text: &[u8], from: usize, parts: &mut Parts) -> Result<usize, SyntaxError>
-    requires short { length text.now ≤ most_bytes }
-    requires within { from ≤ length text.now }
-    requires room { parts.old.count ≤ 2 * from }
-    ensures { MatchResult result (RunTo text.now from parts.old parts.new) (λ e. RunLost text.now from e.at) }
-{
-    let mut at = item(text, from, parts)?;
-    while let Some('a'..='z' | '0' | '(') = peek(text, at) {
-        let left = parts.last();
-        at = item(text, at, parts)?;
-        parts.push(Part::Join { left });
+    // The next byte, as a char.
+    fn peek(&self) -> Option<char>
+        ensures { MatchOption result (length self.now.text.now ≤ self.now.at) (λ c. (self.now.at < length self.now.text.now) × (c ≡ slice_index self.now.text.now self.now.at)) }
+    {
+        self.text.get(self.at).copied().map(char::from)
     }
-    Ok(at)
-}
 
-// An atom, and the signs behind it.
-#[cycle(reader)]
-fn item(text: &[u8], from: usize, parts: &mut Parts) -> Result<usize, SyntaxError>
-    requires short { length text.now ≤ most_bytes }
-    requires within { from ≤ length text.now }
-    requires room { parts.old.count ≤ 2 * from }
-    ensures { MatchResult result (ItemTo text.now from parts.old parts.new) (λ e. ItemLost text.now from e.at) }
-{
-    let mut at = atom(text, from, parts)?;
-    while let Some(sign) = sign_at(text, at) {
-        parts.push(sign);
-        at += 1;
-    }
-    Ok(at)
-}
-
-// The part of the sign at an offset.
-fn sign_at(text: &[u8], at: usize) -> Option<Part>
-    ensures { MatchOption result (Next text.now at NoSign) (λ x. (at < length text.now) × SignPart (slice_index text.now at) x) }
-{
-    match peek(text, at) {
-        Some('+') => Some(Part::Plus),
-        Some('*') => Some(Part::Star),
-        Some('=') => Some(Part::Same),
-        Some('~') => Some(Part::Differ),
-        _ => None,
-    }
-}
-
-// A letter, `0`, or an expression in brackets.
-#[cycle(reader)]
-fn atom(text: &[u8], from: usize, parts: &mut Parts) -> Result<usize, SyntaxError>
-    requires short { length text.now ≤ most_bytes }
-    requires within { from ≤ length text.now }
-    requires room { parts.old.count ≤ 2 * from }
-    ensures { MatchResult result (AtomTo text.now from parts.old parts.new) (λ e. ItemLost text.now from e.at) }
-{
-    match peek(text, from) {
-        Some('0') => {
-            parts.push(Part::Epsilon);
-            Ok(from + 1)
+    // Runs with `|` between them.
+    #[cycle(reader)]
+    fn expression(&mut self) -> Result<(), SyntaxError>
+        ensures text { self.new.text.now ≡ self.old.text.now }
+        ensures read { Reads ExpressionRead ExpressionLost self.old self.new result }
+    {
+        self.run()?;
+        while let Some('|') = self.peek() {
+            let left = self.draft.last();
+            self.at += 1;
+            self.run()?;
+            self.draft.push(Part::Either { left });
         }
-        Some('(') => {
-            let at = expression(text, from + 1, parts)?;
-            closing(text, at)
+        Ok(())
+    }
+
+    // Items side by side.
+    #[cycle(reader)]
+    fn run(&mut self) -> Result<(), SyntaxError>
+        ensures text { self.new.text.now ≡ self.old.text.now }
+        ensures read { Reads RunRead RunLost self.old self.new result }
+    {
+        self.item()?;
+        while let Some('a'..='z' | '0' | '(') = self.peek() {
+            let left = self.draft.last();
+            self.item()?;
+            self.draft.push(Part::Join { left });
         }
-        Some(letter @ 'a'..='z') => {
-            parts.push(Part::Letter(letter as u8));
-            Ok(from + 1)
+        Ok(())
+    }
+
+    // An atom, and the signs behind it.
+    #[cycle(reader)]
+    fn item(&mut self) -> Result<(), SyntaxError>
+        ensures text { self.new.text.now ≡ self.old.text.now }
+        ensures read { Reads ItemRead ItemLost self.old self.new result }
+    {
+        self.atom()?;
+        while let Some(sign) = self.sign() {
+            self.at += 1;
+            self.draft.push(sign);
         }
-        _ => Err(SyntaxError { at: from }),
+        Ok(())
+    }
+
+    // The part of the sign that comes next.
+    fn sign(&self) -> Option<Part>
+        ensures { MatchOption result (Next self.now.text.now self.now.at NoSign) (λ x. (self.now.at < length self.now.text.now) × SignPart (slice_index self.now.text.now self.now.at) x) }
+    {
+        match self.peek()? {
+            '+' => Some(Part::Plus),
+            '*' => Some(Part::Star),
+            '=' => Some(Part::Same),
+            '~' => Some(Part::Differ),
+            _ => None,
+        }
+    }
+
+    // A letter, `0`, or an expression in brackets.
+    #[cycle(reader)]
+    fn atom(&mut self) -> Result<(), SyntaxError>
+        ensures text { self.new.text.now ≡ self.old.text.now }
+        ensures read { Reads AtomRead ItemLost self.old self.new result }
+    {
+        match self.peek() {
+            Some('0') => {
+                self.at += 1;
+                self.draft.push(Part::Epsilon);
+                Ok(())
+            }
+            Some('(') => {
+                self.at += 1;
+                self.expression()?;
+                self.closing()
+            }
+            Some(letter @ 'a'..='z') => {
+                self.at += 1;
+                self.draft.push(Part::Letter(letter as u8));
+                Ok(())
+            }
+            _ => Err(SyntaxError { at: self.at }),
+        }
+    }
+
+    // The bracket that closes.
+    fn closing(&mut self) -> Result<(), SyntaxError>
+        ensures text { self.new.text.now ≡ self.old.text.now }
+        ensures draft { self.new.draft ≡ self.old.draft }
+        ensures read { MatchResult result (λ _. Closed self.old.text.now self.old.at self.new.at) (λ e. Unclosed self.old.text.now self.old.at e.at) }
+    {
+        if self.peek() != Some(')') {
+            return Err(SyntaxError { at: self.at });
+        }
+        self.at += 1;
+        Ok(())
     }
 }
 
-// The offset behind the bracket that closes.
-fn closing(text: &[u8], at: usize) -> Result<usize, SyntaxError>
-    ensures { MatchResult result (Closed text.now at) (λ e. Unclosed text.now at e.at) }
+// The parts of a whole text.
+pub(crate) fn read(text: &[u8]) -> Result<Draft, SyntaxError>
+    requires { length text.now ≤ most_bytes }
+    ensures { MatchResult result (Whole text.now) (λ e. Fails text.now e.at) }
 {
-    match peek(text, at) {
-        Some(')') => Ok(at + 1),
-        _ => Err(SyntaxError { at }),
+    let mut reader = Reader {
+        text,
+        at: 0,
+        draft: Draft::new(),
+    };
+    reader.expression()?;
+    if reader.at < text.len() {
+        return Err(SyntaxError { at: reader.at });
     }
+    Ok(reader.draft)
 }

@@ -1,4 +1,4 @@
-pub mod Passing
+pub mod Records
 pub mod Growing
 pub mod Walk
 pub mod Filling

@@ -1,9 +1,9 @@
 -- A file that is written reads back, and a file that is read is written again. Assumes nothing.
-use Rattle.std.proofs.Common.{◌≡◌, ℕ, ◌+◌, ◌-◌, ◌*◌, ◌<◌, ◌≤◌, true, ◌&&◌, leb, List, [], ◌∷◌, ◌++◌, map, length, take, drop, Some, None, Ok, Err, Result, sym, refl, ap, ◌∙◌, subst, arith}
-use borrow.Rule.Slice.PartMut.{put_mid}
-use Rattle.std.proofs.lemmas.List.{append_assoc, length-append, length-drop, length-map, take_at}
-use Rattle.std.proofs.lemmas.Slice.{take-put_mid, drop-put_mid, drop-append-drop}
-use Rattle.std.proofs.lemmas.Bool.{and_from, and_parts, cond-true, cond-false, le-leb, leb-true, le-ltb, lt-ltb, not_from_true}
+use Rattle.std.proofs.Common.{◌≡◌, ℕ, ◌+◌, ◌*◌, ◌<◌, ◌≤◌, true, List, [], ◌∷◌, ◌++◌, map, length, take, drop, Some, None, Ok, Err, Result, sym, refl, ap, ◌∙◌, subst, arith}
+use Rattle.std.proofs.lemmas.List.{length-append, length-map, drop-drop}
+use Rattle.std.proofs.lemmas.Bool.{and_from, and_parts}
+use Rattle.std.proofs.lemmas.Bool.Decides.{nat_tests}
+use Rattle.std.proofs.lemmas.Grind.{common_steps}
 use Rattle.std.specs.List.{AllZip, AllByRecursion}
 use Rattle.graphs.specs.Links.{sound, all_sound}
 use Rattle.graphs.specs.declared.link.Link.{Link}
@@ -16,7 +16,6 @@ use Rattle.files.specs.Books.{room_of, Decided, writable, write_rows, Put, SameF
 use Rattle.files.specs.Encoding.{head_kind, two_bytes, framed, entry_bytes, links_bytes, raw_book, encode, most_entries, most_links, counts_of, Fits}
 use Rattle.files.specs.Walking.{Surveyed}
 use Rattle.files.proofs.Filling.{links_length}
-use Rattle.files.proofs.Putting.{sound_all, length-put_mid}
 use Rattle.files.proofs.Walk.{one_refusal, no_refusal, one_book}
 
 -- what the check of a file comes to
@@ -32,24 +31,21 @@ decided sh room bytes (Err y) s =
       refused = λ x r. ap Err (one_refusal sh room y x bytes s r);
     }
 
+-- links that are sound, as the test finds them
+sound_all : (n : ℕ) (ls : List Link) → all_sound n ls ≡ true → AllByRecursion (λ l. sound n l ≡ true) ls
+sound_all n [] e = tt
+sound_all n (l ∷ ls) e = let p = and_parts (sound n l) (all_sound n ls) e in (p.0, sound_all n ls p.1)
+
 all_sound_lem : (n : ℕ) (ls : List Link) → AllByRecursion (λ l. sound n l ≡ true) ls → all_sound n ls ≡ true
 all_sound_lem n [] h = refl
 all_sound_lem n (l ∷ ls) h = and_from (sound n l) (all_sound n ls) h.0 (all_sound_lem n ls h.1)
 
 -- a book that may be written, by its parts
-record Writable (n : ℕ) (ls : List Link) : Type 0 where
-  few : n ≤ 128
-  some : length ls ≤ 1024
-  fine : AllByRecursion (λ l. sound n l ≡ true) ls
+known_writable : (n : ℕ) (ls : List Link) → writable n ls ≡ true → (n ≤ 128) × (length ls ≤ 1024) × (all_sound n ls ≡ true)
+known_writable n ls e = (grind (arith, nat_tests), grind (arith, nat_tests), grind (arith, nat_tests))
 
-writable_parts : (n : ℕ) (ls : List Link) → writable n ls ≡ true → Writable n ls
-writable_parts n ls e =
-    let p = and_parts (leb n most_entries && leb (length ls) most_links) (all_sound n ls) e in
-    let q = and_parts (leb n most_entries) (leb (length ls) most_links) p.0 in
-    record { few = leb-true n 128 q.0; some = leb-true (length ls) 1024 q.1; fine = sound_all n ls p.1 }
-
-writable_from : (n : ℕ) (ls : List Link) → Writable n ls → writable n ls ≡ true
-writable_from n ls w = and_from _ _ (and_from _ _ (le-leb n 128 w.few) (le-leb (length ls) 1024 w.some)) (all_sound_lem n ls w.fine)
+writable_from : (n : ℕ) (ls : List Link) → n ≤ 128 → length ls ≤ 1024 → all_sound n ls ≡ true → writable n ls ≡ true
+writable_from n ls few some fine = grind (arith, nat_tests)
 
 abbrev most : Counts
 most = record { entries = most_entries; links = most_links }
@@ -59,45 +55,35 @@ module _ {V : Type 0} (sh : Shape) (encoded : V → List ℕ) where
   encode_length es ls = omega (arith, length-append (entry_bytes encoded es) (links_bytes ls), links_length ls)
 
   pub write_short : (es : List V) (ls : List Link) (room : ℕ) → true ≡ writable (length es) ls → room < length (encode sh encoded es ls) → first_refusal (write_rows sh encoded es ls room) ≡ Some BytesTooShort
-  write_short es ls room fine h = cond-false _ _ _ (not_from_true _ (sym fine)) ∙ cond-true _ _ _ (lt-ltb room _ h)
+  write_short es ls room fine h = grind (arith, nat_tests)
 
   write_none : (es : List V) (ls : List Link) (room : ℕ) → writable (length es) ls ≡ true → length (encode sh encoded es ls) ≤ room → first_refusal (write_rows sh encoded es ls room) ≡ None
-  write_none es ls room fine h = cond-false _ _ _ (not_from_true _ fine) ∙ cond-false _ _ _ (le-ltb room _ h)
+  write_none es ls room fine h = grind (arith, nat_tests)
 
   module _ (es : List V) (ls : List Link) (fine : true ≡ writable (length es) ls) where
     pub put_fits : AllByRecursion (λ p. valid sh p ≡ true) (map encoded es) → Fits sh most (raw_book encoded es ls)
     put_fits values =
         let n : length (map encoded es) ≡ length es = length-map es encoded in
-        let p = writable_parts (length es) ls (sym fine) in
-        record { entries = rw n p.few; links = p.some; values = values; joins = subst (λ k. AllByRecursion (λ l. sound k l ≡ true) ls) (sym n) p.fine }
+        let p = known_writable (length es) ls (sym fine) in
+        record { entries = rw n p.0; links = p.1; values = values; joins = subst (λ k. AllByRecursion (λ l. sound k l ≡ true) ls) (sym n) (sound_all (length es) ls p.2) }
 
-    pub put_book : (out h e l : List ℕ) (size : ℕ) → h ≡ framed head_kind (two_bytes sh.number) → e ≡ entry_bytes encoded es → l ≡ links_bytes ls → size ≡ length (entry_bytes encoded es) → 6 + size + 7 * length ls ≤ length out → Put sh encoded es ls out (put_mid (6 + size) (6 + size + 7 * length ls - (6 + size)) (put_mid 6 (6 + size - 6) (h ++ drop 6 out) e) l) (6 + size + 7 * length ls)
-    put_book out h e l size eh ee el es-size room =
-        let hn : length h ≡ 6 = ap length eh in
-        let en : length e ≡ size = ap length ee ∙ sym es-size in
-        let ln : length l ≡ 7 * length ls = ap length el ∙ links_length ls in
-        let o1 = h ++ drop 6 out in
-        let n1 : length o1 ≡ length out = omega (arith, length-append h (drop 6 out), length-drop 6 out) in
-        let o2 = put_mid 6 (6 + size - 6) o1 e in
-        let n2 : length o2 ≡ length out = length-put_mid 6 (6 + size - 6) o1 e (omega arith) (omega arith) ∙ n1 in
-        let a = take-put_mid (6 + size) (6 + size + 7 * length ls - (6 + size)) o2 l (6 + size + 7 * length ls) (omega arith) (omega arith) in
-        let b = take-put_mid 6 (6 + size - 6) o1 e (6 + size) (omega arith) (omega arith) in
-        let c = take_at h (drop 6 out) 6 hn in
-        let d = drop-put_mid (6 + size) (6 + size + 7 * length ls - (6 + size)) o2 l (6 + size + 7 * length ls) (omega arith) (omega arith) (omega arith) in
-        let f = drop-put_mid 6 (6 + size - 6) o1 e (6 + size + 7 * length ls) (omega arith) (omega arith) (omega arith) in
-        let whole = encode_length es ls in
+    pub put_book : (out h e l rest : List ℕ) (size : ℕ) → h ≡ framed head_kind (two_bytes sh.number) → e ≡ entry_bytes encoded es → l ≡ links_bytes ls → size ≡ length (entry_bytes encoded es) → rest ≡ drop (7 * length ls) (drop size (drop 6 out)) → 6 + size + 7 * length ls ≤ length out → Put sh encoded es ls out (h ++ (e ++ (l ++ rest))) (6 + size + 7 * length ls)
+    put_book out h e l rest size eh ee el es-size er room =
+        let whole : h ++ (e ++ l) ≡ encode sh encoded es ls = rw (eh, ee, el) in
+        let long : length (encode sh encoded es ls) ≡ 6 + size + 7 * length ls = encode_length es ls ∙ omega arith in
+        let tail : drop (6 + size + 7 * length ls) (h ++ (e ++ (l ++ rest))) ≡ rest = grind (arith, common_steps) in
         record {
           none = write_none es ls (length out) (sym fine) (omega arith);
-          size = omega arith;
-          front = a ∙ ap (λ t. t ++ l) (b ∙ ap (λ t. t ++ e) c) ∙ append_assoc h e l ∙ rw (eh, ee, el);
-          behind = d ∙ f ∙ drop-append-drop 6 out h (6 + size + 7 * length ls) (omega arith) hn;
+          size = sym long;
+          front = grind (arith, common_steps);
+          behind = tail ∙ er ∙ simp drop-drop;
         }
 
   -- values with the same payloads agree
   each_known : (agree : V → V → Type 0) → ((x y : V) → encoded x ≡ encoded y → agree x y) → (xs ys : List V) → map encoded xs ≡ map encoded ys → AllZip agree xs ys
   each_known agree known [] [] e = tt
-  each_known agree known [] (y ∷ ys) e = let z : ◌≡◌ {A = ℕ} 0 1 = cc in absurd (omega arith)
-  each_known agree known (x ∷ xs) [] e = let z : ◌≡◌ {A = ℕ} 0 1 = cc in absurd (omega arith)
+  each_known agree known [] (y ∷ ys) e = absurd (cc)
+  each_known agree known (x ∷ xs) [] e = absurd (cc)
   each_known agree known (x ∷ xs) (y ∷ ys) e = (known x y (cc), each_known agree known xs ys (cc))
 
   -- the same book fits wherever there is room for it
@@ -125,8 +111,7 @@ module _ {V : Type 0} (sh : Shape) (encoded : V → List ℕ) where
       (ap Ok size, ap (λ k. take k out') (sym size) ∙ put.front ∙ sym is)
   same_file room bytes es ls a b fits is out out' (Err x) h put =
       let n : length (map encoded es) ≡ length es = length-map es encoded in
-      let fine : writable (length es) ls ≡ true = writable_from (length es) ls (record { few = omega (arith, fits.entries); some = omega (arith, fits.links); fine = subst (λ k. AllByRecursion (λ l. sound k l ≡ true) ls) n fits.joins }) in
+      let fine : writable (length es) ls ≡ true = writable_from (length es) ls (omega (arith, fits.entries)) (omega (arith, fits.links)) (all_sound_lem (length es) ls (subst (λ k. AllByRecursion (λ l. sound k l ≡ true) ls) n fits.joins)) in
       let none = write_none es ls (length out) fine (omega (arith, ap length is)) in
       let both : None ≡ Some x = sym none ∙ put.0 in
-      let z : ◌≡◌ {A = ℕ} 0 1 = cc in
-      absurd (omega arith)
+      absurd (cc)

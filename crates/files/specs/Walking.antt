@@ -1,22 +1,31 @@
 -- What private functions say of the records of a file; no public contract cites this file. Assumes nothing.
-use Rattle.std.specs.Prelude.{◌≡◌, ℕ, zero, suc, ◌+◌, ◌≤◌, true, List, [], ◌∷◌, length, drop, Ok, Err, Result}
-use Rattle.graphs.specs.declared.link.Link.{Link as GraphLink}
-use Rattle.kinds.specs.Payloads.{Shape, valid}
-use Rattle.files.specs.declared.check.RecordKind.{RecordKind}
-use Rattle.files.specs.declared.check.RecordKind.TheVariants.{Entry, Link}
-use Rattle.files.specs.declared.check.Record.{Record}
+use Rattle.std.specs.Prelude.{◌≡◌, ℕ, zero, suc, ◌+◌, ◌≤◌, Bool, true, cond, List, [], ◌∷◌, length, drop, Some, None, Option, Ok, Err, Result, MatchResult, ◌==◌}
 use Rattle.refusals.specs.declared.Refusal.{Refusal}
+use Rattle.kinds.specs.Payloads.{Shape}
 use Rattle.files.specs.declared.counts.Counts.{Counts}
-use Rattle.files.specs.Encoding.{entry_kind, link_kind, Raw, written, counts_of, Fits}
-use Rattle.files.specs.Reading.{size_of, kind_of, payload_of, link_of, Refused}
+use Rattle.files.specs.declared.frame.RecordKind.{RecordKind}
+use Rattle.files.specs.declared.frame.RecordKind.TheVariants.{Head, Entry, Link}
+use Rattle.files.specs.declared.frame.UnknownKind.{UnknownKind}
+use Rattle.files.specs.Encoding.{head_kind, entry_kind, link_kind, Raw, written, counts_of, Fits}
+use Rattle.files.specs.Reading.{size_of, kind_of, payload_of, Refused}
 
 abbrev pub number_of : RecordKind → ℕ
+number_of Head = head_kind
 number_of Entry = entry_kind
 number_of Link = link_kind
 
--- the record at the front of some bytes, as its heading tells
-abbrev pub Told : Record → List ℕ → Type 0
-Told r bytes = (kind_of bytes ≡ number_of r.kind) × (r.size ≡ size_of bytes)
+-- the kind of this number, or the number where no kind has it
+abbrev pub NamesKind : ℕ → Result RecordKind UnknownKind → Type 0
+NamesKind n r = MatchResult r (λ k. number_of k ≡ n) (λ e. (e.0 ≡ n) × ((k : RecordKind) → ¬ (number_of k ≡ n)))
+
+-- what was read with one record more, by its kind
+abbrev pub counted : Option Counts → ℕ → Counts
+counted None k = record { entries = 0; links = 0 }
+counted (Some read) k = cond (k == entry_kind) (record { entries = read.entries + 1; links = read.links }) (record { entries = read.entries; links = read.links + 1 })
+
+-- the record at the front is read: the counts with it, and what lies behind it
+abbrev pub Told : Option Counts → List ℕ → Counts → List ℕ → Type 0
+Told read left more rest = (more ≡ counted read (kind_of left)) × (rest ≡ drop (4 + size_of left) left)
 
 -- the payloads of the first n records
 abbrev pub payloads_in : ℕ → List ℕ → List (List ℕ)
@@ -28,15 +37,10 @@ abbrev pub behind : ℕ → List ℕ → List ℕ
 behind zero bs = bs
 behind (suc n) bs = behind n (drop (4 + size_of bs) bs)
 
--- they are there, and stand for values
-abbrev pub Lies : Shape → ℕ → List ℕ → Type 0
-Lies sh zero bs = Unit {0}
-Lies sh (suc n) bs = (4 + size_of bs ≤ length bs) × (valid sh (payload_of bs) ≡ true) × Lies sh n (drop (4 + size_of bs) bs)
-
--- the links of the first n records of seven bytes
-abbrev pub links_in : ℕ → List ℕ → List GraphLink
-links_in zero bs = []
-links_in (suc n) bs = link_of (drop 4 bs) ∷ links_in n (drop 7 bs)
+-- they are there, and their payloads pass a test
+abbrev pub Lies : (List ℕ → Bool) → ℕ → List ℕ → Type 0
+Lies test zero bs = Unit {0}
+Lies test (suc n) bs = (4 + size_of bs ≤ length bs) × (test (payload_of bs) ≡ true) × Lies test n (drop (4 + size_of bs) bs)
 
 -- a file is checked: it is the file of a book that fits, with these counts, or it is refused
 abbrev pub Surveyed : Shape → Counts → List ℕ → Result Counts Refusal → Type 0

@@ -1,140 +1,81 @@
 // The records of a file, checked one after the other.
-ghost use Rattle.std.specs.Prelude.{◌≡◌, ℕ, ◌+◌, ◌<◌, ◌≤◌, length, Some, None};
-ghost use Rattle.kinds.specs.Payloads.{Shape};
+ghost use Rattle.std.specs.Prelude.{◌≡◌, ℕ, [], ◌∷◌, ◌<◌, ◌≤◌, not, length, take, drop, nat_lt, MatchOption, Some, None};
 ghost use Rattle.refusals.specs.Rows.{ByRows};
-ghost use Rattle.files.specs.Encoding.{entry_kind, link_kind};
 ghost use Rattle.files.specs.Reading.{size_of, kind_of, rows};
 ghost use Rattle.files.specs.Walking.{Told, Surveyed};
 
 use crate::counts::Counts;
-use crate::frame::{
-    ENTRY_KIND, HEAD_KIND, HEAD_SIZE, HEADING_SIZE, LINK_KIND, LINK_SIZE, link_of, two_bytes,
-};
+use crate::frame::{HEAD_SIZE, LINK_SIZE, RecordKind, link_of};
 use kinds::kind::{Kind, Payload};
 use refusals::Refusal;
 
-// What may stand behind the head.
-#[derive(Clone, Copy)]
-pub(crate) enum RecordKind {
-    Entry,
-    Link,
-}
-
-// A record that breaks no row: what it is, and the length of its payload.
-#[derive(Clone, Copy)]
-pub(crate) struct Record {
-    pub(crate) kind: RecordKind,
-    pub(crate) size: usize,
-}
-
-// The rows for the first record, which must be the head.
-fn check_head<K: Kind>(bytes: &[u8]) -> Result<(), Refusal>
-    ensures { (room : Counts) → ByRows (rows K.Payload.Payload.shape room None 0 bytes.now) result (λ _. Unit {0}) }
+// The heading at the front of some bytes, as the length of a payload and the number of a kind, and what lies behind it.
+fn split_heading(left: &[u8]) -> Option<(usize, u16, &[u8])>
+    ensures { MatchOption result (length left.now < 4) (λ h. (4 ≤ length left.now) × (h.0 ≡ size_of left.now) × (h.1 ≡ kind_of left.now) × (h.2.now ≡ drop 4 left.now)) }
 {
-    if bytes.len() < HEADING_SIZE {
-        return Err(Refusal::HeadingCut { at: 0 });
-    }
-    if two_bytes(bytes[2], bytes[3]) != HEAD_KIND {
-        return Err(Refusal::RecordMisplaced { at: 0 });
-    }
-    if two_bytes(bytes[0], bytes[1]) as usize != HEAD_SIZE {
-        return Err(Refusal::LengthUnfit { at: 0 });
-    }
-    if bytes.len() < HEADING_SIZE + HEAD_SIZE {
-        return Err(Refusal::PayloadCut { at: 0 });
-    }
-    if two_bytes(bytes[4], bytes[5]) != K::file_number() {
-        return Err(Refusal::OtherValueKind { at: 0 });
-    }
-    Ok(())
+    let [size_low, size_high, kind_low, kind_high, rest @ ..] = left else {
+        return None;
+    };
+    let size = u16::from_le_bytes([*size_low, *size_high]);
+    let kind = u16::from_le_bytes([*kind_low, *kind_high]);
+    Some((usize::from(size), kind, rest))
 }
 
-// The rest of the rows for an entry, whose heading tells `size`.
-fn check_entry<K: Kind>(
-    left: &[u8],
-    size: usize,
-    at: usize,
-    read: Counts,
-    room: Counts,
-) -> Result<(), Refusal>
-    requires headed { 4 ≤ length left.now }
-    requires kind { kind_of left.now ≡ entry_kind }
-    requires size { size ≡ size_of left.now }
-    requires early { read.links ≡ 0 }
-    ensures { ByRows (rows K.Payload.Payload.shape room (Some read) at left.now) result (λ _. Unit {0}) }
+// A payload of so many bytes, if its kind allows that length, which is looked at first, and what lies behind it.
+fn split_payload(rest: &[u8], size: usize, fits: bool, at: usize) -> Result<(&[u8], &[u8]), Refusal>
+    ensures { ByRows ((not fits, Refusal.LengthUnfit at) ∷ (nat_lt (length rest.now) size, Refusal.PayloadCut at) ∷ []) result (λ x. (x.0.now ≡ take size rest.now) × (x.1.now ≡ drop size rest.now)) }
 {
-    if !K::Payload::fits(size) {
+    if !fits {
         return Err(Refusal::LengthUnfit { at });
     }
-    if left.len() < HEADING_SIZE + size {
-        return Err(Refusal::PayloadCut { at });
-    }
-    if K::Payload::decode(&left[HEADING_SIZE..HEADING_SIZE + size]).is_none() {
-        return Err(Refusal::NoSuchDay { at });
-    }
-    if read.entries >= room.entries {
-        return Err(Refusal::TooManyEntries { at });
-    }
-    Ok(())
+    rest.split_at_checked(size)
+        .ok_or(Refusal::PayloadCut { at })
 }
 
-// The rest of the rows for a link.
-fn check_link(
-    left: &[u8],
-    size: usize,
+// The record at the front of `left`, where `at` is its offset and `read` counts the records before it (`None`: it must be the head). Gives the counts with this record, and what lies behind it.
+fn check_record<'a, K: Kind>(
+    left: &'a [u8],
     at: usize,
-    read: Counts,
+    read: Option<Counts>,
     room: Counts,
-) -> Result<(), Refusal>
-    requires headed { 4 ≤ length left.now }
-    requires kind { kind_of left.now ≡ link_kind }
-    requires size { size ≡ size_of left.now }
-    ensures { (sh : Shape) → ByRows (rows sh room (Some read) at left.now) result (λ _. Unit {0}) }
+) -> Result<(Counts, &'a [u8]), Refusal>
+    ensures { ByRows (rows K.Payload.Payload.shape room read at left.now) result (λ x. Told read left.now x.0 x.1.now) }
 {
-    if size != LINK_SIZE {
-        return Err(Refusal::LengthUnfit { at });
-    }
-    if left.len() < HEADING_SIZE + LINK_SIZE {
-        return Err(Refusal::PayloadCut { at });
-    }
-    let link = link_of(&left[HEADING_SIZE..HEADING_SIZE + LINK_SIZE]);
-    if !link.is_sound(read.entries) {
-        return Err(Refusal::LinkUnsound { at });
-    }
-    if read.links >= room.links {
-        return Err(Refusal::TooManyLinks { at });
-    }
-    Ok(())
-}
-
-// What the record at the front of `left` is, where `at` is its offset and `read` counts the records before it.
-fn check_record<K: Kind>(
-    left: &[u8],
-    at: usize,
-    read: Counts,
-    room: Counts,
-) -> Result<Record, Refusal>
-    ensures { ByRows (rows K.Payload.Payload.shape room (Some read) at left.now) result (λ x. Told x left.now) }
-{
-    if left.len() < HEADING_SIZE {
+    let Some((size, kind, rest)) = split_heading(left) else {
         return Err(Refusal::HeadingCut { at });
-    }
-    let size = two_bytes(left[0], left[1]) as usize;
-    let kind = two_bytes(left[2], left[3]);
-    if kind == ENTRY_KIND && read.links == 0 {
-        check_entry::<K>(left, size, at, read, room)?;
-        Ok(Record {
-            kind: RecordKind::Entry,
-            size,
-        })
-    } else if kind == LINK_KIND {
-        check_link(left, size, at, read, room)?;
-        Ok(Record {
-            kind: RecordKind::Link,
-            size,
-        })
-    } else {
-        Err(Refusal::RecordMisplaced { at })
+    };
+    match (RecordKind::try_from(kind), read) {
+        (Ok(RecordKind::Head), None) => {
+            let (payload, behind) = split_payload(rest, size, size == HEAD_SIZE, at)?;
+            // There are two bytes; a pattern would have an arm that cannot come.
+            if u16::from_le_bytes([payload[0], payload[1]]) != K::NUMBER {
+                return Err(Refusal::OtherValueKind { at });
+            }
+            Ok((Counts::default(), behind))
+        }
+        (Ok(RecordKind::Entry), Some(mut read)) if read.links == 0 => {
+            let (payload, behind) = split_payload(rest, size, K::Payload::fits(size), at)?;
+            if K::Payload::decode(payload).is_none() {
+                return Err(Refusal::NoSuchDay { at });
+            }
+            if read.entries >= room.entries {
+                return Err(Refusal::TooManyEntries { at });
+            }
+            read.entries += 1;
+            Ok((read, behind))
+        }
+        (Ok(RecordKind::Link), Some(mut read)) => {
+            let (payload, behind) = split_payload(rest, size, size == LINK_SIZE, at)?;
+            if !link_of(payload).is_some_and(|link| link.is_sound(read.entries)) {
+                return Err(Refusal::LinkUnsound { at });
+            }
+            if read.links >= room.links {
+                return Err(Refusal::TooManyLinks { at });
+            }
+            read.links += 1;
+            Ok((read, behind))
+        }
+        _ => Err(Refusal::RecordMisplaced { at }),
     }
 }
 
@@ -142,19 +83,10 @@ fn check_record<K: Kind>(
 pub(crate) fn check<K: Kind>(bytes: &[u8], room: Counts) -> Result<Counts, Refusal>
     ensures { Surveyed K.Payload.Payload.shape room bytes.now result }
 {
-    check_head::<K>(bytes)?;
-    let mut read = Counts {
-        entries: 0,
-        links: 0,
-    };
-    let mut at = HEADING_SIZE + HEAD_SIZE;
-    while at < bytes.len() {
-        let record = check_record::<K>(&bytes[at..], at, read, room)?;
-        match record.kind {
-            RecordKind::Entry => read.entries += 1,
-            RecordKind::Link => read.links += 1,
-        }
-        at += HEADING_SIZE + record.size;
+    let (mut read, mut left) = check_record::<K>(bytes, 0, None, room)?;
+    while !left.is_empty() {
+        let at = bytes.len() - left.len();
+        (read, left) = check_record::<K>(left, at, Some(read), room)?;
     }
     Ok(read)
 }

@@ -7,7 +7,7 @@ pub const MOST_ENTRIES: usize = 128;
 pub const MOST_LINKS: usize = 1024;
 
 // A number of entries and a number of links.
-#[derive(Clone, Copy, PartialEq, Eq, Debug)]
+#[derive(Clone, Copy, PartialEq, Eq, Debug, Default)]
 pub struct Counts {
     pub entries: usize,
     pub links: usize,

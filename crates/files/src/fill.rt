@@ -1,40 +1,41 @@
-// Buffers filled from the records of a file that was checked.
-ghost use Rattle.std.specs.Prelude.{◌≡◌, ℕ, ◌*◌, ◌≤◌, map, length, drop};
-ghost use Rattle.files.specs.Walking.{payloads_in, behind, Lies, links_in};
+// Buffers filled from the records of a file that was checked, so that each payload stands for a value.
+// The two loops are not one that takes a closure: the clauses on what each of its calls may return would be longer than the loop.
+ghost use Rattle.std.specs.Prelude.{◌≡◌, ℕ, ◌==◌, map, length};
+ghost use Rattle.kinds.specs.Payloads.{valid};
+ghost use Rattle.files.specs.Reading.{link_of};
+ghost use Rattle.files.specs.Walking.{payloads_in, behind, Lies};
 
-use crate::frame::{HEADING_SIZE, LINK_SIZE, link_of, two_bytes};
+use crate::frame::{link_of, split_record};
 use graphs::link::Link;
 use kinds::kind::{Kind, Payload};
 
-// Fills the entries from as many records at the front of `left`, and tells how many bytes these take.
-pub(crate) fn fill_entries<K: Kind>(left: &[u8], entries: &mut [K]) -> usize
-    requires { Lies K.Payload.Payload.shape (length entries.old) left.now }
+// Fills the entries from as many records at the front of `left`, and gives what lies behind them.
+pub(crate) fn fill_entries<'a, K: Kind>(mut left: &'a [u8], entries: &mut [K]) -> &'a [u8]
+    requires { Lies (valid K.Payload.Payload.shape) (length entries.old) left.now }
     ensures held { map K.Payload.Payload.encoded entries.new ≡ payloads_in (length entries.old) left.now }
-    ensures stored { entries.new ≡ map K.Payload.Payload.decoded (map K.Payload.Payload.encoded entries.new) }
-    ensures within { result ≤ length left.now }
-    ensures behind { drop result left.now ≡ behind (length entries.old) left.now }
+    ensures stored { entries.new ≡ map K.Payload.Payload.decoded (payloads_in (length entries.old) left.now) }
+    ensures behind { result.now ≡ behind (length entries.old) left.now }
 {
-    let mut at = 0;
-    for i in 0..entries.len() {
-        let size = two_bytes(left[at], left[at + 1]) as usize;
-        // The file was checked, so there is one.
-        if let Some(value) = K::Payload::decode(
-            &left[at + HEADING_SIZE..at + HEADING_SIZE + size],
-        ) {
-            entries[i] = value;
+    for entry in entries.iter_mut() {
+        let (payload, behind) = split_record(left);
+        if let Some(value) = K::Payload::decode(payload) {
+            *entry = value;
         }
-        at += HEADING_SIZE + size;
+        left = behind;
     }
-    at
+    left
 }
 
 // Fills the links from the records that are left.
-pub(crate) fn fill_links(left: &[u8], links: &mut [Link])
-    requires { length left.now ≡ 7 * length links.old }
-    ensures { links.new ≡ links_in (length links.old) left.now }
+pub(crate) fn fill_links(mut left: &[u8], links: &mut [Link])
+    requires { Lies (λ p. length p == 3) (length links.old) left.now }
+    ensures { links.new ≡ map link_of (payloads_in (length links.old) left.now) }
 {
-    for i in 0..links.len() {
-        let at = (HEADING_SIZE + LINK_SIZE) * i;
-        links[i] = link_of(&left[at + HEADING_SIZE..at + HEADING_SIZE + LINK_SIZE]);
+    for link in links.iter_mut() {
+        let (payload, behind) = split_record(left);
+        if let Some(value) = link_of(payload) {
+            *link = value;
+        }
+        left = behind;
     }
 }

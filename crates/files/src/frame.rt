@@ -1,17 +1,12 @@
-// The frame of a record: four bytes before its payload, two for the payload's length and two for the kind of record.
-ghost use Rattle.std.specs.Prelude.{◌≡◌, ℕ, length};
-ghost use Rattle.kinds.specs.Payloads.{word};
-ghost use Rattle.files.specs.Reading.{link_of};
+// The frame of a record: two bytes for the length of its payload, two for its kind, then the payload.
+ghost use Rattle.std.specs.Prelude.{◌≡◌, ℕ, ◌+◌, ◌≤◌, ◌==◌, length, drop, if◌then◌else◌, Some, None};
+ghost use Rattle.files.specs.Reading.{size_of, payload_of, link_of};
+ghost use Rattle.files.specs.Walking.{NamesKind};
 
 use graphs::link::Link;
 
+// The heading, which is what stands before the payload.
 pub(crate) const HEADING_SIZE: usize = 4;
-
-pub(crate) const HEAD_KIND: u16 = 1;
-
-pub(crate) const ENTRY_KIND: u16 = 2;
-
-pub(crate) const LINK_KIND: u16 = 3;
 
 // The payload of a head.
 pub(crate) const HEAD_SIZE: usize = 2;
@@ -19,20 +14,53 @@ pub(crate) const HEAD_SIZE: usize = 2;
 // The payload of a link.
 pub(crate) const LINK_SIZE: usize = 3;
 
-pub(crate) fn two_bytes(low: u8, high: u8) -> u16
-    ensures { result ≡ word low high }
+// The kinds of record, by the numbers that a file has for them.
+#[derive(Clone, Copy, PartialEq, Eq, Debug)]
+pub(crate) enum RecordKind {
+    Head = 1,
+    Entry = 2,
+    Link = 3,
+}
+
+// A number that is no kind's.
+#[derive(Clone, Copy, PartialEq, Eq, Debug)]
+pub(crate) struct UnknownKind(pub(crate) u16);
+
+impl TryFrom<u16> for RecordKind {
+    type Error = UnknownKind;
+
+    ghost try_from_gives = { NamesKind };
+
+    fn try_from(number: u16) -> Result<Self, UnknownKind> {
+        match number {
+            1 => Ok(RecordKind::Head),
+            2 => Ok(RecordKind::Entry),
+            3 => Ok(RecordKind::Link),
+            _ => Err(UnknownKind(number)),
+        }
+    }
+}
+
+// The payload of a record that is known to be whole, at the front of some bytes, and what lies behind it. So its heading is there, and is not refused.
+pub(crate) fn split_record(left: &[u8]) -> (&[u8], &[u8])
+    requires { 4 + size_of left.now ≤ length left.now }
+    ensures payload { result.0.now ≡ payload_of left.now }
+    ensures behind { result.1.now ≡ drop (4 + size_of left.now) left.now }
 {
-    low as u16 + 256 * high as u16
+    let size = u16::from_le_bytes([left[0], left[1]]);
+    left[HEADING_SIZE..].split_at(usize::from(size))
 }
 
 // The link in the payload of its record.
-pub(crate) fn link_of(payload: &[u8]) -> Link
-    requires { length payload.now ≡ 3 }
-    ensures { result ≡ link_of payload.now }
+pub(crate) fn link_of(payload: &[u8]) -> Option<Link>
+    ensures { result ≡ (if length payload.now == 3 then Some (link_of payload.now) else None) }
 {
-    Link {
-        from: payload[0] as usize,
-        letter: payload[1],
-        to: payload[2] as usize,
-    }
+    let [from, letter, to] = payload else {
+        return None;
+    };
+    Some(Link {
+        from: usize::from(*from),
+        letter: *letter,
+        to: usize::from(*to),
+    })
 }

@@ -5,7 +5,7 @@ ghost use Rattle.files.specs.Books.{room_of, Decided, ReadBook, SameFile};
 use crate::check::check;
 use crate::counts::{Counts, MOST_ENTRIES, MOST_LINKS};
 use crate::fill::{fill_entries, fill_links};
-use crate::frame::{HEAD_SIZE, HEADING_SIZE};
+use crate::frame::split_record;
 use graphs::link::Link;
 use kinds::kind::{Kind, Payload};
 use refusals::Refusal;
@@ -25,12 +25,8 @@ pub fn read_book<K: Kind>(
         links: links.len().min(MOST_LINKS),
     };
     let read = check::<K>(bytes, room)?;
-    let Counts {
-        entries: n,
-        links: m,
-    } = read;
-    let head = HEADING_SIZE + HEAD_SIZE;
-    let size = fill_entries::<K>(&bytes[head..], &mut entries[0..n]);
-    fill_links(&bytes[head + size..], &mut links[0..m]);
+    let (_, left) = split_record(bytes);
+    let left = fill_entries::<K>(left, &mut entries[..read.entries]);
+    fill_links(left, &mut links[..read.links]);
     Ok(read)
 }

@@ -17,12 +17,7 @@ use refusals::Refusal;
 fn all_sound(links: &[Link], entries: usize) -> bool
     ensures { result ≡ all_sound entries links.now }
 {
-    for link in links {
-        if !link.is_sound(entries) {
-            return false;
-        }
-    }
-    true
+    links.iter().all(|link| link.is_sound(entries))
 }
 
 // Whether a book of so many entries may be written.
@@ -36,14 +31,12 @@ fn is_writable(entries: usize, links: &[Link]) -> bool
 fn entries_size<K: Kind>(entries: &[K]) -> usize
     requires { length entries.now ≤ 128 }
     ensures is { result ≡ length (entry_bytes K.Payload.Payload.encoded entries.now) }
-    ensures values { AllByRecursion (λ p. valid K.Payload.Payload.shape p ≡ true) (map K.Payload.Payload.encoded entries.now) }
     ensures small { result ≤ 128 * 65540 }
 {
-    let mut sum = 0;
-    for entry in entries {
-        sum += HEADING_SIZE + K::Payload::size(entry);
-    }
-    sum
+    entries
+        .iter()
+        .map(|entry| HEADING_SIZE + K::Payload::size(entry))
+        .sum()
 }
 
 // Writes a book of one kind of value to the front of a buffer, and tells how many bytes it takes.
@@ -54,14 +47,17 @@ pub fn write_book<K: Kind>(entries: &[K], links: &[Link], out: &mut [u8]) -> Res
     if !is_writable(entries.len(), links) {
         return Err(Refusal::BookUnwritable);
     }
-    let head = HEADING_SIZE + HEAD_SIZE;
-    let middle = head + entries_size(entries);
-    let end = middle + (HEADING_SIZE + LINK_SIZE) * links.len();
-    if out.len() < end {
+    let entries_size = entries_size(entries);
+    let links_size = (HEADING_SIZE + LINK_SIZE) * links.len();
+    let size = HEADING_SIZE + HEAD_SIZE + entries_size + links_size;
+    if out.len() < size {
         return Err(Refusal::BytesTooShort);
     }
-    put_head::<K>(&mut out[0..head]);
-    put_entries(entries, &mut out[head..middle]);
-    put_links(links, entries.len(), &mut out[middle..end]);
-    Ok(end)
+    let (head, out) = out.split_at_mut(HEADING_SIZE + HEAD_SIZE);
+    let (middle, out) = out.split_at_mut(entries_size);
+    let (end, _) = out.split_at_mut(links_size);
+    put_head::<K>(head);
+    put_entries(entries, middle);
+    put_links(links, entries.len(), end);
+    Ok(size)
 }

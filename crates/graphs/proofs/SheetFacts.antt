@@ -1,122 +1,82 @@
 -- The days of a sheet, month by month. Assumes nothing.
-use Rattle.std.proofs.Common.{◌≡◌, ℕ, zero, suc, ◌+◌, ◌-◌, ◌<◌, ◌≤◌, true, false, ◌&&◌, eqb, leb, ◌⊎◌, List, [], ◌++◌, length, Some, None, Option, sym, refl, ap, ◌∙◌, inl, inr, arith}
-use Rattle.std.proofs.lemmas.List.FromFn.{length-map-range_with_len}
-use Rattle.std.proofs.lemmas.List.{length-append}
-use Rattle.std.proofs.lemmas.Bool.{and_from, and_parts, and_left, and_right, cases_eq, cond-true, cond-false, eq-eqb, ne_eqb, leb-true}
+use Rattle.std.proofs.Common.{◌≡◌, ℕ, zero, suc, ◌+◌, ◌-◌, ◌*◌, ◌<◌, ◌≤◌, true, false, Bool, cond, map, length, get_or, take, Some, None, Option, List, ◌++◌, ◌∷◌, ◌&&◌, ◌==◌, leb, ltb, arith, ap, sym, ◌∙◌}
+use Rattle.std.proofs.lemmas.Bool.Decides.{nat_tests}
+use Rattle.std.proofs.lemmas.Option.{slice_get-get_or}
+use Rattle.std.proofs.lemmas.List.{map-id, length-append}
+use Rattle.std.proofs.lemmas.List.FromFn.{length-range_with_len, get_or-range_with_len, length-map-range_with_len, get_or-map-range_with_len, take-map-range_with_len, sum_by-map-range_with_len_more}
+use Rattle.std.proofs.lemmas.List.Folds.{length-flat_map-take}
+use Rattle.std.proofs.lemmas.List.Concat.{length-flat_map, get_or-flat_map}
+use Rattle.std.proofs.lemmas.List.Sums.{sum-map, sum_by-le}
+use Rattle.std.specs.List.{position, sum, flat_map, range_with_len}
 use Rattle.std.specs.Option.{option_map}
+use Rattle.kinds.specs.Calendars.{month_length, leap}
+use Rattle.kinds.specs.declared.calendar.Calendar.TheVariants.{Gregorian}
 use Rattle.graphs.specs.Graphs.{value_at}
-use Rattle.graphs.specs.Sheets.{sheet_in_range, SheetDay, days_of, month_days, sheet_days, entry_of}
+use Rattle.graphs.specs.Sheets.{SheetDay, days_of, month_days, sheet_days, entry_of}
 
-pub length-step : (y m c : ℕ) → length (sheet_days y m (suc c)) ≡ days_of y m + length (sheet_days y (m + 1) c)
-length-step y m c =
-    length-append (month_days m 1 (days_of y m)) (sheet_days y (m + 1) c) ∙ ap (λ k. k + length (sheet_days y (m + 1) c)) (length-map-range_with_len (λ d. (m, d)) 1 (days_of y m))
-
--- the day at a place within the first month, and past it
-value_month : (m a len : ℕ) (rest : List SheetDay) (k : ℕ) → k < len → value_at (month_days m a len ++ rest) k ≡ Some (m, a + k)
-value_month m a zero rest k h = absurd (omega arith)
-value_month m a (suc len) rest zero h = ap (λ d. Some (m, d)) (omega arith)
-value_month m a (suc len) rest (suc k) h = value_month m (a + 1) len rest k (omega arith) ∙ ap (λ d. Some (m, d)) (omega arith)
-
-value_rest : (m a len : ℕ) (rest : List SheetDay) (k : ℕ) → len ≤ k → value_at (month_days m a len ++ rest) k ≡ value_at rest (k - len)
-value_rest m a zero rest k h = ap (value_at rest) (omega arith)
-value_rest m a (suc len) rest zero h = absurd (omega arith)
-value_rest m a (suc len) rest (suc k) h = value_rest m (a + 1) len rest k (omega arith) ∙ ap (value_at rest) (omega arith)
-
-pub value_here : (y m c k : ℕ) → k < days_of y m → value_at (sheet_days y m (suc c)) k ≡ Some (m, k + 1)
-value_here y m c k h = value_month m 1 (days_of y m) (sheet_days y (m + 1) c) k h ∙ ap (λ d. Some (m, d)) (omega arith)
-
-pub value_later : (y m c k : ℕ) → days_of y m ≤ k → value_at (sheet_days y m (suc c)) k ≡ value_at (sheet_days y (m + 1) c) (k - days_of y m)
-value_later y m c k h = value_rest m 1 (days_of y m) (sheet_days y (m + 1) c) k h
-
--- entries that lie so many later
-shifted : (len : ℕ) (o : Option ℕ) → option_map suc (option_map (λ j. len + j) o) ≡ option_map (λ j. suc len + j) o
-shifted len None = refl
-shifted len (Some j) = ap Some (omega arith)
-
-unshifted : (o : Option ℕ) → o ≡ option_map (λ j. 0 + j) o
-unshifted None = refl
-unshifted (Some j) = ap Some (omega arith)
-
-pub shifted_twice : (a b : ℕ) (o : Option ℕ) → option_map (λ j. a + j) (option_map (λ j. b + j) o) ≡ option_map (λ j. a + b + j) o
-shifted_twice a b None = refl
-shifted_twice a b (Some j) = ap Some (omega arith)
-
--- a day that is not in a stretch of a month is looked for behind it
-entry_rest : (m a len : ℕ) (rest : List SheetDay) (day : SheetDay) → ((d : ℕ) → a ≤ d → d < a + len → (eqb m day.0 && eqb d day.1) ≡ false) → entry_of (month_days m a len ++ rest) day ≡ option_map (λ j. len + j) (entry_of rest day)
-entry_rest m a zero rest day h = unshifted (entry_of rest day)
-entry_rest m a (suc len) rest day h =
-    cond-false _ (Some 0) (option_map suc (entry_of (month_days m (a + 1) len ++ rest) day)) (h a (omega arith) (omega arith))
-    ∙ ap (option_map suc) (entry_rest m (a + 1) len rest day (λ d low high. h d (omega arith) (omega arith))) ∙ shifted len (entry_of rest day)
-
-entry_month : (m a len : ℕ) (rest : List SheetDay) (d : ℕ) → a ≤ d → d < a + len → entry_of (month_days m a len ++ rest) (m, d) ≡ Some (d - a)
-entry_month m a zero rest d low high = absurd (omega arith)
-entry_month m a (suc len) rest d low high = by (cases_eq a d) (λ more. entry_month m (a + 1) len rest d more (omega arith))
+-- no month has more than 31 days
+pub days_of_few : (y m : ℕ) → days_of y m ≤ 31
+days_of_few y m = few (leap Gregorian y) m
   where
-    by : (a ≡ d) ⊎ (a ≡ d → ⊥) → (a + 1 ≤ d → entry_of (month_days m (a + 1) len ++ rest) (m, d) ≡ Some (d - (a + 1))) → entry_of (month_days m a (suc len) ++ rest) (m, d) ≡ Some (d - a)
-    by (inl e) again = cond-true _ (Some 0) _ (and_from _ _ (eq-eqb m m refl) (eq-eqb a d e)) ∙ ap Some (omega arith)
-    by (inr ne) again =
-        let more : a + 1 ≤ d = omega (arith, ne) in
-        cond-false _ (Some 0) (option_map suc (entry_of (month_days m (a + 1) len ++ rest) (m, d))) (and_right (eqb m m) (eqb a d) (ne_eqb a d ne)) ∙ ap (option_map suc) (again more) ∙ ap Some (omega arith)
+    few : (b : Bool) (m : ℕ) → month_length b m ≤ 31
+    few true m = grind (arith, nat_tests)
+    few false m = grind (arith, nat_tests)
 
-pub entry_other : (y m c k d : ℕ) → (m ≡ k → ⊥) → entry_of (sheet_days y m (suc c)) (k, d) ≡ option_map (λ j. days_of y m + j) (entry_of (sheet_days y (m + 1) c) (k, d))
-entry_other y m c k d ne = entry_rest m 1 (days_of y m) (sheet_days y (m + 1) c) (k, d) (λ e low high. and_left (eqb m k) (eqb e d) (ne_eqb m k ne))
+-- so many months have as many days as they have together, at most 31 each, and one month more adds its own
+pub length-sheet_days : (y m n : ℕ) → length (sheet_days y m n) ≡ sum (map (days_of y) (range_with_len m n))
+length-sheet_days y m n = sym (simp (sum-map, length-flat_map, length-map-range_with_len))
 
-pub entry_here : (y m c d : ℕ) → 1 ≤ d → d ≤ days_of y m → entry_of (sheet_days y m (suc c)) (m, d) ≡ Some (d - 1)
-entry_here y m c d low high = entry_month m 1 (days_of y m) (sheet_days y (m + 1) c) d low (omega arith)
+pub length-sheet_days_few : (y m n : ℕ) → length (sheet_days y m n) ≤ 31 * n
+length-sheet_days_few y m n = omega (arith, length-sheet_days y m n, sum-map (days_of y) (range_with_len m n), sum_by-le (days_of y) 31 (range_with_len m n) (λ k d h. days_of_few y _), length-range_with_len m n)
 
--- no later month is this one
-entry_none : (y m c k d : ℕ) → k < m → entry_of (sheet_days y m c) (k, d) ≡ None
-entry_none y m zero k d h = refl
-entry_none y m (suc c) k d h = entry_other y m c k d (λ e. absurd (omega arith)) ∙ ap (option_map (λ j. days_of y m + j)) (entry_none y (m + 1) c k d (omega arith))
+pub length-sheet_days_more : (y m k : ℕ) → m ≤ k → length (sheet_days y m (k + 1 - m)) ≡ length (sheet_days y m (k - m)) + days_of y k
+length-sheet_days_more y m k h =
+    let more : k + 1 - m ≡ k - m + 1 = omega arith in
+    rw more (omega (arith, length-sheet_days y m (k - m), length-sheet_days y m (k - m + 1), sum_by-map-range_with_len_more (λ x. x) (days_of y) m (k - m) k (omega arith)))
 
-pub entry_missing : (y m c d : ℕ) → ((e : ℕ) → 1 ≤ e → e ≤ days_of y m → e ≡ d → ⊥) → entry_of (sheet_days y m (suc c)) (m, d) ≡ None
-entry_missing y m c d no-day =
-    entry_rest m 1 (days_of y m) (sheet_days y (m + 1) c) (m, d) (λ e low high. and_right (eqb m m) (eqb e d) (ne_eqb e d (no-day e low (omega arith))))
-    ∙ ap (option_map (λ j. days_of y m + j)) (entry_none y (m + 1) c m d (omega arith))
+-- the day of an entry that lies within a month, so many days behind the months before it
+pub day_within : (y m c k left entry : ℕ) → m ≤ k → k < m + c → length (sheet_days y m (k - m)) + left ≡ entry → left < days_of y k → value_at (sheet_days y m c) entry ≡ Some (k, left + 1)
+day_within y m c k left entry low high is fits =
+    let f : ℕ → List SheetDay = λ k. month_days k 1 (days_of y k) in
+    let xs : List ℕ = range_with_len m c in
+    let i : ℕ = k - m in
+    let before : take i xs ≡ range_with_len m i = simp map-id at (take-map-range_with_len (λ (x : ℕ). x) m c i (omega arith)) in
+    let month : get_or xs i 0 ≡ k = get_or-range_with_len m c i 0 (omega arith) ∙ omega arith in
+    let inside : i < length xs = omega (arith, length-range_with_len m c) in
+    let here : left < length (f (get_or xs i 0)) = rw (month, length-map-range_with_len) fits in
+    rw (← is, ← before)
+    (slice_get-get_or (sheet_days y m c) (length (flat_map f (take i xs)) + left) (0, 0) (omega (arith, length-flat_map-take f xs i 0 inside))
+    ∙ ap Some (get_or-flat_map f xs i left 0 (0, 0) inside here ∙ ap (λ k. get_or (f k) left (0, 0)) month ∙ get_or-map-range_with_len (λ d. (k, d)) 1 (days_of y k) left (left + 1) (0, 0) fits (omega arith)))
 
--- loops over the months of a sheet, from m on, up to e
-module _ (y m e : ℕ) (h : m < e) where
-  left_over : e - m ≡ suc (e - (m + 1))
-  left_over = omega arith
+-- the first place that passes, of a list with one element more
+position-cons : {X : Type 0} (p : X → Bool) (x : X) (xs : List X) → position p (x ∷ xs) ≡ cond (p x) (Some 0) (option_map suc (position p xs))
+position-cons p x xs = grind (arith, nat_tests)
 
-  pub days_more : (n len whole : ℕ) → len ≡ days_of y m → n + length (sheet_days y m (e - m)) ≡ whole → n + len + length (sheet_days y (m + 1) (e - (m + 1))) ≡ whole
-  days_more n len whole el inv =
-      let a : length (sheet_days y m (e - m)) ≡ days_of y m + length (sheet_days y (m + 1) (e - (m + 1))) = ap (λ c. length (sheet_days y m c)) left_over ∙ length-step y m (e - (m + 1)) in
-      omega arith
+-- where a day stands: among a stretch of days of one month, or behind them
+stretch_step : (m a n k d : ℕ) (o : Option ℕ) → cond (m == k && a == d) (Some 0) (option_map suc (cond (m == k && (leb (a + 1) d && ltb d (a + 1 + n))) (Some (d - (a + 1))) (option_map (λ j. n + j) o))) ≡ cond (m == k && (leb a d && ltb d (a + suc n))) (Some (d - a)) (option_map (λ j. suc n + j) o)
+stretch_step m a n k d None = grind (arith, nat_tests)
+stretch_step m a n k d (Some i) = grind (arith, nat_tests)
 
-  pub day_here : (k len : ℕ) (o : Option SheetDay) → len ≡ days_of y m → k < len → value_at (sheet_days y m (e - m)) k ≡ o → Some (m, k + 1) ≡ o
-  day_here k len o el less inv = sym (ap (λ c. value_at (sheet_days y m c) k) left_over ∙ value_here y m (e - (m + 1)) k (omega arith)) ∙ inv
+no_stretch : (m a k d : ℕ) (o : Option ℕ) → o ≡ cond (m == k && (leb a d && ltb d (a + 0))) (Some (d - a)) (option_map (λ j. 0 + j) o)
+no_stretch m a k d None = grind (arith, nat_tests)
+no_stretch m a k d (Some i) = grind (arith, nat_tests)
 
-  pub day_more : (k len : ℕ) (o : Option SheetDay) → len ≡ days_of y m → len ≤ k → value_at (sheet_days y m (e - m)) k ≡ o → value_at (sheet_days y (m + 1) (e - (m + 1))) (k - len) ≡ o
-  day_more k len o el past inv =
-      ap (λ n. value_at (sheet_days y (m + 1) (e - (m + 1))) (k - n)) el ∙ sym (ap (λ c. value_at (sheet_days y m c) k) left_over ∙ value_later y m (e - (m + 1)) k (omega arith)) ∙ inv
+entry_of_stretch : (m a n k d : ℕ) (rest : List SheetDay) → entry_of (month_days m a n ++ rest) (k, d) ≡ cond (m == k && (leb a d && ltb d (a + n))) (Some (d - a)) (option_map (λ j. n + j) (entry_of rest (k, d)))
+entry_of_stretch m a zero k d rest = no_stretch m a k d (entry_of rest (k, d))
+entry_of_stretch m a (suc n) k d rest =
+    position-cons (λ x. x.0 == k && x.1 == d) (m, a) (month_days m (a + 1) n ++ rest)
+    ∙ ap (λ o. cond (m == k && a == d) (Some 0) (option_map suc o)) (entry_of_stretch m (a + 1) n k d rest) ∙ stretch_step m a n k d (entry_of rest (k, d))
 
-  pub entry_more : (start len k d : ℕ) (o : Option ℕ) → len ≡ days_of y m → (m ≡ k → ⊥) → o ≡ option_map (λ j. start + j) (entry_of (sheet_days y m (e - m)) (k, d)) → o ≡ option_map (λ j. start + len + j) (entry_of (sheet_days y (m + 1) (e - (m + 1))) (k, d))
-  entry_more start len k d o el ne inv =
-      inv ∙ ap (λ c. option_map (λ j. start + j) (entry_of (sheet_days y m c) (k, d))) left_over
-      ∙ ap (option_map (λ j. start + j)) (entry_other y m (e - (m + 1)) k d ne)
-      ∙ shifted_twice start (days_of y m) (entry_of (sheet_days y (m + 1) (e - (m + 1))) (k, d))
-      ∙ ap (λ n. option_map (λ j. start + n + j) (entry_of (sheet_days y (m + 1) (e - (m + 1))) (k, d))) (sym el)
+-- a month, and the months behind it
+month_step : (m c k d n here before after : ℕ) → (m ≡ k → (here ≡ n) × (before ≡ 0)) → (m < k → before ≡ n + after) → cond (m == k && (leb 1 d && ltb d (1 + n))) (Some (d - 1)) (option_map (λ j. n + j) (cond ((leb (m + 1) k && ltb k (m + 1 + c)) && (leb 1 d && leb d here)) (Some (after + (d - 1))) None)) ≡ cond ((leb m k && ltb k (m + suc c)) && (leb 1 d && leb d here)) (Some (before + (d - 1))) None
+month_step m c k d n here before after same later = grind (arith, nat_tests)
 
-  pub entry_found : (start len k d : ℕ) (o : Option ℕ) → len ≡ days_of y m → m ≡ k → 1 ≤ d → d ≤ len → o ≡ option_map (λ j. start + j) (entry_of (sheet_days y m (e - m)) (k, d)) → Some (start + (d - 1)) ≡ o
-  entry_found start len k d o el ek low high inv =
-      sym (inv ∙ ap (λ c. option_map (λ j. start + j) (entry_of (sheet_days y m c) (k, d))) left_over
-      ∙ ap (λ i. option_map (λ j. start + j) (entry_of (sheet_days y m (suc (e - (m + 1)))) (i, d))) (sym ek)
-      ∙ ap (option_map (λ j. start + j)) (entry_here y m (e - (m + 1)) d low (omega arith)))
-
-  pub entry_lost : (start len k d : ℕ) (o : Option ℕ) → len ≡ days_of y m → m ≡ k → (1 ≤ d → d ≤ len → ⊥) → o ≡ option_map (λ j. start + j) (entry_of (sheet_days y m (e - m)) (k, d)) → None ≡ o
-  entry_lost start len k d o el ek out inv =
-      sym (inv ∙ ap (λ c. option_map (λ j. start + j) (entry_of (sheet_days y m c) (k, d))) left_over
-      ∙ ap (λ i. option_map (λ j. start + j) (entry_of (sheet_days y m (suc (e - (m + 1)))) (i, d))) (sym ek)
-      ∙ ap (option_map (λ j. start + j)) (entry_missing y m (e - (m + 1)) d (λ n low high same. out (omega arith) (omega arith))))
-
--- and at the end of the months
-pub months_over : (y m e : ℕ) → e ≤ m → sheet_days y m (e - m) ≡ []
-months_over y m e h = ap (sheet_days y m) (let z : e - m ≡ 0 = omega arith in z)
-
-pub sheet_few : (y m c : ℕ) → sheet_in_range y m c ≡ true → (c ≤ 3) × (m + c ≤ 13)
-sheet_few y m c e =
-    let p = and_parts (leb 1900 y && leb y 2199) _ e in
-    let q = and_parts (leb 1 m && leb 1 c) _ p.1 in
-    let r = and_parts (leb c 3) (leb (m + c) 13) q.1 in
-    (leb-true c 3 r.0, leb-true (m + c) 13 r.1)
+-- a day of the months stands behind the months before its own; no other day is there
+pub entry_of_days : (y m c k d : ℕ) → entry_of (sheet_days y m c) (k, d) ≡ cond ((leb m k && ltb k (m + c)) && (leb 1 d && leb d (days_of y k))) (Some (length (sheet_days y m (k - m)) + (d - 1))) None
+entry_of_days y m zero k d = grind (arith, nat_tests)
+entry_of_days y m (suc c) k d =
+    let first = λ (e : m ≡ k). let none : k - m ≡ 0 = omega arith in ap (λ n. length (sheet_days y m n)) none in
+    let later = λ (h : m < k). let more : k - m ≡ suc (k - (m + 1)) = omega arith in let step : length (sheet_days y m (k - m)) ≡ days_of y m + length (sheet_days y (m + 1) (k - (m + 1))) = rw (more, length-append, length-map-range_with_len) in step in
+    entry_of_stretch m 1 (days_of y m) k d (sheet_days y (m + 1) c)
+    ∙ ap (λ o. cond (m == k && (leb 1 d && ltb d (1 + days_of y m))) (Some (d - 1)) (option_map (λ j. days_of y m + j) o)) (entry_of_days y (m + 1) c k d)
+    ∙ month_step m c k d (days_of y m) (days_of y k) (length (sheet_days y m (k - m))) (length (sheet_days y (m + 1) (k - (m + 1)))) (λ e. (ap (days_of y) (sym e), first e)) later

@@ -1,5 +1,5 @@
 -- What a source means: a graph. Assumes nothing.
-use Rattle.std.specs.Prelude.{◌≡◌, ℕ, zero, suc, ◌<◌, ◌≤◌, Bool, true, false, List, [], ◌∷◌, length, Some, None, Option, slice_index_or}
+use Rattle.std.specs.Prelude.{◌≡◌, ℕ, ◌<◌, ◌≤◌, Bool, true, false, List, length, Some, None, Option, slice_get, slice_index_or}
 use Rattle.graphs.specs.declared.link.Link.{Link}
 use Rattle.graphs.specs.Links.{sound}
 
@@ -24,9 +24,7 @@ pub record Lawful (g : Graph) : Type 0 where
 
 -- the value of an entry
 abbrev pub value_at : {V : Type 0} → List V → ℕ → Option V
-value_at [] u = None
-value_at (x ∷ xs) zero = Some x
-value_at (x ∷ xs) (suc u) = value_at xs u
+value_at values u = slice_get values u
 
 -- whether there are two values, and they are the same
 abbrev pub both_same : {V : Type 0} → (V → V → Bool) → Option V → Option V → Bool

@@ -1,5 +1,6 @@
 -- Links between numbered entries. Assumes nothing.
-use Rattle.std.specs.Prelude.{ℕ, Bool, true, cond, ◌&&◌, List, [], ◌∷◌, Some, None, Option, ◌==◌, nat_le, nat_lt}
+use Rattle.std.specs.Prelude.{ℕ, Bool, cond, ◌&&◌, List, Some, None, Option, ◌==◌, nat_le, nat_lt}
+use Rattle.std.specs.List.{list_all}
 use Rattle.graphs.specs.declared.link.Link.{Link}
 
 -- a link that stands among n entries: its letter is one of a to z, and both its ends are entries
@@ -8,8 +9,7 @@ sound n l = (nat_le 97 l.letter && nat_le l.letter 122) && (nat_lt l.from n && n
 
 -- every link of a list stands among n entries
 abbrev pub all_sound : ℕ → List Link → Bool
-all_sound n [] = true
-all_sound n (l ∷ ls) = sound n l && all_sound n ls
+all_sound n ls = list_all (sound n) ls
 
 -- a link as it reads among n entries: one that does not stand among them reads as nothing
 abbrev pub read_among : ℕ → Link → Option Link

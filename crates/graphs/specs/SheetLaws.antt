@@ -1,62 +1,64 @@
--- The graph of a sheet is lawful: lemmas that the code's ghost members cite, and that no reader has to believe. Assumes nothing.
-use Rattle.std.specs.Prelude.{◌≡◌, ℕ, zero, suc, ◌+◌, ◌<◌, Bool, true, false, cond, ◌&&◌, List, [], ◌∷◌, map, length, Some, None, Option, ◌==◌, nat_eq, nat_lt, slice_index_or, refl}
+-- The graph of a sheet is lawful, and has three places to a day: lemmas that the code's ghost members cite, and that no reader has to believe. Assumes nothing.
+use Rattle.std.specs.Prelude.{◌≡◌, ℕ, zero, suc, ◌*◌, ◌+◌, ◌/◌, ◌%◌, ◌<◌, true, List, [], ◌∷◌, map, length, take, Some, None, Option, ◌==◌, nat_eq, slice_index_or, refl}
 use Rattle.std.proofs.Common.{sym, ap, subst, ◌∙◌, arith}
-use Rattle.std.proofs.ByRecursion.{All-append}
-use Rattle.std.proofs.lemmas.List.{length-map}
-use Rattle.std.proofs.lemmas.Bool.{and_from, eqb-true, eq-eqb, lt-ltb}
-use Rattle.std.specs.List.{range_with_len, flat_map, AllByRecursion}
+use Rattle.std.proofs.lemmas.Bool.{eqb-true, eq-eqb}
+use Rattle.std.proofs.lemmas.Bool.Decides.{nat_tests}
+use Rattle.std.proofs.lemmas.List.{get_or_past, length-append, length-map, length-take-le}
+use Rattle.std.proofs.lemmas.List.Concat.{get_or-flat_map}
+use Rattle.std.proofs.lemmas.List.FromFn.{length-range_with_len, get_or-range_with_len}
+use Rattle.std.proofs.lemmas.Option.{slice_get_cases, slice_get_within}
+use Rattle.std.specs.List.{range_with_len, flat_map}
 use Rattle.std.specs.Option.{option_map}
 use Rattle.graphs.specs.declared.link.Link.{Link}
 use Rattle.graphs.specs.GraphLaws.{valued_lawful}
-use Rattle.graphs.specs.Graphs.{Lawful}
+use Rattle.graphs.specs.Graphs.{Lawful, link_at, value_at}
 use Rattle.graphs.specs.Links.{sound}
 use Rattle.graphs.specs.Sheets.{SheetDay, entry_of, link_to, places_of, sheet_graph}
 
--- what a place holds stands among n entries
-abbrev Standing : ℕ → Option Link → Type 0
-Standing n o = (l : Link) → o ≡ Some l → sound n l ≡ true
+-- lists of three each, in a row
+threes_length : {X : Type 0} (f : ℕ → List X) → ((i : ℕ) → length (f i) ≡ 3) → (xs : List ℕ) → length (flat_map f xs) ≡ 3 * length xs
+threes_length f three [] = refl
+threes_length f three (x ∷ xs) = omega (arith, length-append (f x) (flat_map f xs), three x, threes_length f three xs)
 
-standing_none : (n : ℕ) → Standing n None
-standing_none n l e = let z : ◌≡◌ {A = ℕ} 0 1 = cc in absurd (omega arith)
+month_sound : (n i : ℕ) → i < n → (o : Option ℕ) → ((j : ℕ) → o ≡ Some j → j < n) → (l : Link) → option_map (link_to i 109) o ≡ Some l → sound n l ≡ true
+month_sound n i h None within l e = cc
+month_sound n i h (Some j) within l e = let below : j < n = within j refl in grind (arith, nat_tests)
 
-standing_link : (n i letter j : ℕ) → sound n (link_to i letter j) ≡ true → Standing n (Some (link_to i letter j))
-standing_link n i letter j s l e = let same : link_to i letter j ≡ l = cc in ap (sound n) (sym same) ∙ s
+module _ (days : List SheetDay) where
+  entry_within : (day : SheetDay) (j : ℕ) → entry_of days day ≡ Some j → j < length days
+  entry_within day j e = grind (arith, nat_tests)
 
-later_cases : (n i letter steps : ℕ) (b : Bool) → (b ≡ true → sound n (link_to i letter (i + steps)) ≡ true) → Standing n (cond b (Some (link_to i letter (i + steps))) None)
-later_cases n i letter steps true h = standing_link n i letter (i + steps) (h refl)
-later_cases n i letter steps false h = standing_none n
+  pub places_length : length (flat_map (places_of days) (range_with_len 0 (length days))) ≡ 3 * length days
+  places_length = omega (arith, threes_length (places_of days) (λ i. refl) (range_with_len 0 (length days)), length-range_with_len 0 (length days))
 
-pub entry_within : (xs : List SheetDay) (day : SheetDay) (j : ℕ) → entry_of xs day ≡ Some j → j < length xs
-entry_within [] day j e = let z : ◌≡◌ {A = ℕ} 0 1 = cc in absurd (omega arith)
-entry_within (x ∷ xs) day j e = by (x.0 == day.0 && x.1 == day.1) (entry_of xs day) (entry_within xs day) e
-  where
-    by : (b : Bool) (o : Option ℕ) → ((j : ℕ) → o ≡ Some j → j < length xs) → cond b (Some 0) (option_map suc o) ≡ Some j → j < suc (length xs)
-    by true o h e = let is : ◌≡◌ {A = ℕ} 0 j = cc in omega arith
-    by false None h e = let z : ◌≡◌ {A = ℕ} 0 1 = cc in absurd (omega arith)
-    by false (Some i) h e = let is : suc i ≡ j = cc in omega (arith, h i refl)
+  module _ (place : ℕ) where
+    pub place_past : value_at days (place / 3) ≡ None → link_at (sheet_graph days) place ≡ None
+    place_past e = get_or_past (flat_map (places_of days) (range_with_len 0 (length days))) place None (grind (arith, places_length, slice_get_cases days (place / 3)))
 
-month_standing : (n i : ℕ) → i < n → (o : Option ℕ) → ((j : ℕ) → o ≡ Some j → j < n) → Standing n (option_map (link_to i 109) o)
-month_standing n i hi None h = standing_none n
-month_standing n i hi (Some j) h = standing_link n i 109 j (and_from _ _ (lt-ltb i n hi) (lt-ltb j n (h j refl)))
+    pub place_within : (day : SheetDay) → value_at days (place / 3) ≡ Some day → link_at (sheet_graph days) place ≡ slice_index_or (places_of days (place / 3)) (place % 3) None
+    place_within day e =
+        let f : ℕ → List (Option Link) = places_of days in
+        let xs : List ℕ = range_with_len 0 (length days) in
+        let i : ℕ = place / 3 in
+        let within : i < length days = slice_get_within days i day e in
+        let inside : i < length xs = omega (arith, length-range_with_len 0 (length days)) in
+        let at : place ≡ length (flat_map f (take i xs)) + place % 3 = omega (arith, threes_length f (λ k. refl) (take i xs), length-take-le i xs (omega arith)) in
+        ap (λ k. slice_index_or (flat_map f xs) k None) at
+        ∙ get_or-flat_map f xs i (place % 3) 0 None inside (omega arith)
+        ∙ ap (λ k. slice_index_or (f k) (place % 3) None) (get_or-range_with_len 0 (length days) i 0 within ∙ omega arith)
 
-places_standing : (days : List SheetDay) (i : ℕ) → i < length days → AllByRecursion (Standing (length days)) (places_of days i)
-places_standing days i hi =
-    let n = length days in (
-      later_cases n i 100 1 (nat_lt (i + 1) n) (λ e. and_from _ _ (lt-ltb i n hi) e),
-      (
-        later_cases n i 119 7 (nat_lt (i + 7) n) (λ e. and_from _ _ (lt-ltb i n hi) e),
-        (month_standing n i hi _ (entry_within days _), tt),
-      ),
-    )
+  place_sound : (i : ℕ) → i < length days → (r : ℕ) (l : Link) → slice_index_or (places_of days i) r None ≡ Some l → sound (length days) l ≡ true
+  place_sound i h zero l e = grind (arith, nat_tests)
+  place_sound i h (suc zero) l e = grind (arith, nat_tests)
+  place_sound i h (suc (suc zero)) l e = month_sound _ i h (entry_of days _) (entry_within _) l e
+  place_sound i h (suc (suc (suc r))) l e = cc
 
-all_counted : {X : Type 0} (P : X → Type 0) (f : ℕ → List X) (a n : ℕ) → ((i : ℕ) → i < a + n → AllByRecursion P (f i)) → AllByRecursion P (flat_map f (range_with_len a n))
-all_counted P f a zero h = tt
-all_counted P f a (suc n) h = All-append P (f a) (flat_map f (range_with_len (a + 1) n)) (h a (omega arith)) (all_counted P f (a + 1) n (λ i e. h i (omega arith)))
-
-all_at : {X : Type 0} (P : X → Type 0) (xs : List X) (k : ℕ) (d : X) → P d → AllByRecursion P xs → P (slice_index_or xs k d)
-all_at P [] k d h a = h
-all_at P (x ∷ xs) zero d h a = a.0
-all_at P (x ∷ xs) (suc k) d h a = all_at P xs k d h a.1
+  places_sound : (place : ℕ) (l : Link) → link_at (sheet_graph days) place ≡ Some l → sound (length days) l ≡ true
+  places_sound place l e = by (value_at days (place / 3)) refl
+    where
+      by : (o : Option SheetDay) → value_at days (place / 3) ≡ o → sound (length days) l ≡ true
+      by None none = let no : None ≡ Some l = sym (place_past place none) ∙ e in cc
+      by (Some day) is = place_sound (place / 3) (slice_get_within days (place / 3) day is) (place % 3) l (sym (place_within place day is) ∙ e)
 
 eqb_reflexive : (x : ℕ) → (x == x) ≡ true
 eqb_reflexive x = eq-eqb x x refl
@@ -72,6 +74,5 @@ sheet_lawful days =
     let values = map (λ day. day.1) days in
     let places = flat_map (places_of days) (range_with_len 0 (length days)) in
     let n : length values ≡ length days = length-map days (λ day. day.1) in
-    let standing = all_counted (Standing (length days)) (places_of days) 0 (length days) (λ i e. places_standing days i (omega arith)) in
     valued_lawful nat_eq eqb_reflexive eqb_symmetric eqb_transitive values places
-    (λ k l e. subst (λ m. sound m l ≡ true) (sym n) (all_at (Standing (length days)) places k None (standing_none (length days)) standing l e))
+    (λ k l e. subst (λ m. sound m l ≡ true) (sym n) (places_sound days k l e))

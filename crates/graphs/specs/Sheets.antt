@@ -1,5 +1,5 @@
 -- The graph of a sheet: one to three whole months of one Gregorian year. Assumes nothing.
-use Rattle.std.specs.Prelude.{ℕ, zero, suc, ◌+◌, Bool, cond, ◌&&◌, List, [], ◌∷◌, ◌++◌, map, length, Some, None, Option, ◌==◌, nat_eq, nat_le, nat_lt, slice_index_or}
+use Rattle.std.specs.Prelude.{ℕ, ◌+◌, Bool, cond, ◌&&◌, List, [], ◌∷◌, map, length, Some, None, Option, ◌==◌, nat_eq, nat_le, nat_lt, slice_index_or, position}
 use Rattle.std.specs.List.{range_with_len, flat_map}
 use Rattle.std.specs.Option.{option_map}
 use Rattle.kinds.specs.Calendars.{leap, month_length}
@@ -25,8 +25,17 @@ month_days month first days = map (λ d. (month, d)) (range_with_len first days)
 
 -- the days of so many months from a month on, in order
 abbrev pub sheet_days : ℕ → ℕ → ℕ → List SheetDay
-sheet_days year month zero = []
-sheet_days year month (suc count) = month_days month 1 (days_of year month) ++ sheet_days year (month + 1) count
+sheet_days year month count = flat_map (λ m. month_days m 1 (days_of year m)) (range_with_len month count)
+
+-- so many months of a year, from a month on, as a sheet shows them
+pub record Months : Type 0 where
+  pub year : ℕ
+  pub month : ℕ
+  pub count : ℕ
+
+-- their days, in order
+abbrev pub days_in : Months → List SheetDay
+days_in m = sheet_days m.year m.month m.count
 
 -- the day of an entry
 abbrev pub day_at : List SheetDay → ℕ → SheetDay
@@ -34,8 +43,7 @@ day_at days i = slice_index_or days i (0, 0)
 
 -- the number of the entry that a day has among some days
 abbrev pub entry_of : List SheetDay → SheetDay → Option ℕ
-entry_of [] day = None
-entry_of (x ∷ xs) day = cond (x.0 == day.0 && x.1 == day.1) (Some 0) (option_map suc (entry_of xs day))
+entry_of days day = position (λ x. x.0 == day.0 && x.1 == day.1) days
 
 -- the letters d, w and m
 abbrev pub day_letter : ℕ

@@ -1,5 +1,5 @@
 // Layers: sources made of other sources, of any type, which they hold.
-ghost use Rattle.std.specs.Prelude.{◌≡◌, ℕ};
+// Each passes three questions on in a line. One impl over a trait of layers would need members for the source below and for what becomes of a link, and two laws.
 ghost use Rattle.graphs.specs.GraphLaws.{reversed_lawful, without_lawful};
 ghost use Rattle.graphs.specs.Layers.{reversed, without};
 
@@ -13,9 +13,9 @@ pub struct Reversed<S: Source> {
 }
 
 impl<S: Source> Source for Reversed<S> {
-    ghost graph = { λ s. reversed (S.Source.graph s.below) };
+    ghost graph = { λ s. reversed (S.graph s.below) };
 
-    ghost lawful = { λ s. reversed_lawful (S.Source.graph s.below) (S.Source.lawful s.below) };
+    ghost lawful = { λ s. reversed_lawful (S.graph s.below) (S.lawful s.below) };
 
     fn entries(&self) -> usize {
         self.below.entries()
@@ -26,10 +26,7 @@ impl<S: Source> Source for Reversed<S> {
     }
 
     fn link_at(&self, place: usize) -> Option<Link> {
-        let Some(link) = self.below.link_at(place) else {
-            return None;
-        };
-        Some(link.turned())
+        self.below.link_at(place).map(Link::turned)
     }
 
     fn same(&self, u: usize, v: usize) -> bool {
@@ -45,9 +42,9 @@ pub struct WithoutLetter<S: Source> {
 }
 
 impl<S: Source> Source for WithoutLetter<S> {
-    ghost graph = { λ s. without s.letter (S.Source.graph s.below) };
+    ghost graph = { λ s. without s.letter (S.graph s.below) };
 
-    ghost lawful = { λ s. without_lawful s.letter (S.Source.graph s.below) (S.Source.lawful s.below) };
+    ghost lawful = { λ s. without_lawful s.letter (S.graph s.below) (S.lawful s.below) };
 
     fn entries(&self) -> usize {
         self.below.entries()
@@ -58,10 +55,7 @@ impl<S: Source> Source for WithoutLetter<S> {
     }
 
     fn link_at(&self, place: usize) -> Option<Link> {
-        let Some(link) = self.below.link_at(place) else {
-            return None;
-        };
-        link.unless(self.letter)
+        self.below.link_at(place)?.unless(self.letter)
     }
 
     fn same(&self, u: usize, v: usize) -> bool {

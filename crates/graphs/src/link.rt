@@ -1,9 +1,9 @@
 // Links between numbered entries.
-ghost use Rattle.std.specs.Prelude.{◌≡◌, ℕ, Some};
+ghost use Rattle.std.specs.Prelude.{◌≡◌};
 ghost use Rattle.graphs.specs.Links.{sound, read_among, turned, unless};
 
 // A link from one entry to another, with a letter that says how the second was made from the first.
-#[derive(Clone, Copy, PartialEq, Eq, Debug)]
+#[derive(Clone, Copy, Default, PartialEq, Eq, Debug)]
 pub struct Link {
     pub from: usize,
     pub letter: u8,
@@ -15,18 +15,14 @@ impl Link {
     pub fn is_sound(self, entries: usize) -> bool
         ensures { result ≡ sound entries self }
     {
-        self.letter >= b'a' && self.letter <= b'z' && self.from < entries && self.to < entries
+        matches!(self.letter, b'a'..=b'z') && self.from < entries && self.to < entries
     }
 
     // The link as it reads among so many entries.
     pub fn read_among(self, entries: usize) -> Option<Link>
         ensures { result ≡ read_among entries self }
     {
-        if self.is_sound(entries) {
-            Some(self)
-        } else {
-            None
-        }
+        self.is_sound(entries).then_some(self)
     }
 
     // The link with its ends exchanged.
@@ -44,10 +40,6 @@ impl Link {
     pub fn unless(self, letter: u8) -> Option<Link>
         ensures { result ≡ unless letter (Some self) }
     {
-        if self.letter == letter {
-            None
-        } else {
-            Some(self)
-        }
+        (self.letter != letter).then_some(self)
     }
 }

@@ -1,16 +1,17 @@
 // Sheets: some whole months of a Gregorian year.
-ghost use Rattle.std.specs.Prelude.{◌≡◌, ℕ, ◌+◌, ◌≤◌, true, not, [], ◌∷◌, length, IfSome};
-ghost use Rattle.std.specs.Option.{option_map};
+ghost use Rattle.std.specs.Prelude.{◌≡◌, ◌+◌, ◌-◌, ◌*◌, ◌<◌, ◌≤◌, not, [], ◌∷◌, length, SomeIff, IfSome};
 ghost use Rattle.refusals.specs.Rows.{ByRows};
 ghost use Rattle.refusals.specs.declared.Refusal.TheVariants.{SheetOutOfRange};
 ghost use Rattle.graphs.specs.Graphs.{value_at};
 ghost use Rattle.graphs.specs.SheetLaws.{sheet_lawful};
-ghost use Rattle.graphs.specs.Sheets.{sheet_in_range, days_of, sheet_days, entry_of, month_letter, link_to, later, sheet_graph};
+ghost use Rattle.graphs.specs.Sheets.{sheet_in_range, days_of, days_in, sheet_days, entry_of, sheet_graph};
 
 use crate::link::Link;
 use crate::source::Source;
 use kinds::calendar::{Calendar, FIRST_YEAR, LAST_YEAR};
 use refusals::Refusal;
+use std::marker::Model;
+use std::ops::Range;
 
 // A sheet has at most so many months.
 const MOST_MONTHS: u8 = 3;
@@ -21,54 +22,77 @@ pub struct Sheet {
     year: u16,
     month: u8,
     count: u8,
-    ghost ok: { sheet_in_range year month count ≡ true },
+}
+
+impl Model for Sheet {
+    ghost use Rattle.std.specs.Prelude.{IsTrue};
+    ghost use Rattle.graphs.specs.Sheets.{Months, sheet_in_range};
+
+    ghost Value = { Months };
+
+    ghost view = { λ s. record { year = s.year; month = s.month; count = s.count } };
+
+    ghost invariant = { λ s. IsTrue (sheet_in_range s.year s.month s.count) };
+
+    ghost inverse = { λ s. record { year = s.year; month = s.month; count = s.count } };
 }
 
 impl Sheet {
     // The sheet of so many months of a year, from a month on.
     pub fn new(year: u16, month: u8, count: u8) -> Result<Sheet, Refusal>
-        ensures { ByRows ((not (sheet_in_range year month count), SheetOutOfRange) ∷ []) result (λ s. (s.year ≡ year) × (s.month ≡ month) × (s.count ≡ count)) }
+        ensures { ByRows ((not (sheet_in_range year month count), SheetOutOfRange) ∷ []) result (λ s. s ≡ record { year = year; month = month; count = count }) }
     {
-        if year < FIRST_YEAR
-            || year > LAST_YEAR
-            || month < 1
-            || count < 1
-            || count > MOST_MONTHS
-            || month as u16 + count as u16 > 13
+        if (FIRST_YEAR..=LAST_YEAR).contains(&year)
+            && (1..=MOST_MONTHS).contains(&count)
+            && (1..=13 - count).contains(&month)
         {
-            return Err(Refusal::SheetOutOfRange);
+            Ok(Sheet { year, month, count })
+        } else {
+            Err(Refusal::SheetOutOfRange)
         }
-        Ok(Sheet { year, month, count })
+    }
+
+    // The sheet's months.
+    fn months(&self) -> Range<u8>
+        ensures { result ≡ record { start = self.now.month; end = self.now.month + self.now.count } }
+    {
+        self.month..self.month + self.count
     }
 
     // How many days a month of the year has.
-    fn length_of(&self, month: u8) -> usize
-        ensures is { result ≡ days_of self.now.year month }
-        ensures few { result ≤ 255 }
+    fn length_of(&self, month: u8) -> u8
+        ensures { result ≡ days_of self.now.year month }
     {
-        Calendar::Gregorian.month_length(self.year, month) as usize
+        Calendar::Gregorian.month_length(self.year, month)
+    }
+
+    // How many days the sheet has before a month.
+    fn days_before(&self, month: u8) -> usize
+        ensures few { result ≤ 31 * month }
+        ensures is { result ≡ length (sheet_days self.now.year self.now.month (month - self.now.month)) }
+    {
+        (self.month..month)
+            .map(|earlier| usize::from(self.length_of(earlier)))
+            .sum()
     }
 
     // How many days the sheet has.
     fn days(&self) -> usize
-        ensures is { result ≡ length (sheet_days self.now.year self.now.month self.now.count) }
-        ensures few { result ≤ 765 }
+        ensures few { result ≤ 93 }
+        ensures is { result ≡ length (days_in self.now) }
     {
-        let mut days = 0;
-        for month in self.month..self.month + self.count {
-            days += self.length_of(month);
-        }
-        days
+        self.days_before(self.month + self.count)
     }
 
     // The month and the day of the month that an entry stands for.
     fn day_at(&self, entry: usize) -> Option<(u8, u8)>
         ensures months { IfSome result (λ day. day.0 ≤ 12) }
-        ensures is { result ≡ value_at (sheet_days self.now.year self.now.month self.now.count) entry }
+        ensures is { result ≡ value_at (days_in self.now) entry }
     {
+        // A loop, since what is left passes from month to month: a `find` would sum the days before each month anew.
         let mut left = entry;
-        for month in self.month..self.month + self.count {
-            let length = self.length_of(month);
+        for month in self.months() {
+            let length = usize::from(self.length_of(month));
             if left < length {
                 return Some((month, left as u8 + 1));
             }
@@ -79,57 +103,26 @@ impl Sheet {
 
     // The entry that stands for a day of a month.
     fn entry_of(&self, month: u8, date: u8) -> Option<usize>
-        ensures { result ≡ entry_of (sheet_days self.now.year self.now.month self.now.count) (month, date) }
+        ensures { result ≡ entry_of (days_in self.now) (month, date) }
     {
-        let mut start = 0;
-        for each in self.month..self.month + self.count {
-            let length = self.length_of(each);
-            if each == month {
-                return if 1 <= date && date as usize <= length {
-                    Some(start + (date as usize - 1))
-                } else {
-                    None
-                };
-            }
-            start += length;
-        }
-        None
+        let here = self.months().contains(&month) && (1..=self.length_of(month)).contains(&date);
+        here.then(|| self.days_before(month) + usize::from(date - 1))
     }
 
-    // A link to so many days later, where that day is on the sheet.
-    fn later(&self, from: usize, letter: u8, steps: usize) -> Option<Link>
-        ensures { result ≡ later (length (sheet_days self.now.year self.now.month self.now.count)) from letter steps }
+    // The entry so many days later.
+    fn later(&self, entry: usize, steps: usize) -> Option<usize>
+        requires { entry + steps ≤ usize.MAX }
+        ensures { SomeIff result (entry + steps < length (days_in self.now)) (entry + steps) }
     {
-        if from >= self.days().saturating_sub(steps) {
-            return None;
-        }
-        Some(Link {
-            from,
-            letter,
-            to: from + steps,
-        })
-    }
-
-    // A link to the same day of the next month, where that day is on the sheet.
-    fn next_month(&self, from: usize, month: u8, date: u8) -> Option<Link>
-        requires { month ≤ 12 }
-        ensures { result ≡ option_map (link_to from month_letter) (entry_of (sheet_days self.now.year self.now.month self.now.count) (month + 1, date)) }
-    {
-        match self.entry_of(month + 1, date) {
-            Some(to) => Some(Link {
-                from,
-                letter: b'm',
-                to,
-            }),
-            None => None,
-        }
+        let later = entry + steps;
+        (later < self.days()).then_some(later)
     }
 }
 
 impl Source for Sheet {
-    ghost graph = { λ s. sheet_graph (sheet_days s.year s.month s.count) };
+    ghost graph = { λ s. sheet_graph (days_in s) };
 
-    ghost lawful = { λ s. sheet_lawful (sheet_days s.year s.month s.count) };
+    ghost lawful = { λ s. sheet_lawful (days_in s) };
 
     fn entries(&self) -> usize {
         self.days()
@@ -141,26 +134,19 @@ impl Source for Sheet {
 
     fn link_at(&self, place: usize) -> Option<Link> {
         let from = place / 3;
-        let Some((month, date)) = self.day_at(from) else {
-            return None;
+        let (month, date) = self.day_at(from)?;
+        let (letter, to) = match place % 3 {
+            0 => (b'd', self.later(from, 1)),
+            1 => (b'w', self.later(from, 7)),
+            _ => (b'm', self.entry_of(month + 1, date)),
         };
-        let part = place % 3;
-        if part == 0 {
-            self.later(from, b'd', 1)
-        } else if part == 1 {
-            self.later(from, b'w', 7)
-        } else {
-            self.next_month(from, month, date)
-        }
+        to.map(|to| Link { from, letter, to })
     }
 
     fn same(&self, u: usize, v: usize) -> bool {
-        let Some((_, first)) = self.day_at(u) else {
-            return false;
-        };
-        let Some((_, second)) = self.day_at(v) else {
-            return false;
-        };
-        first == second
+        match (self.day_at(u), self.day_at(v)) {
+            (Some((_, first)), Some((_, second))) => first == second,
+            _ => false,
+        }
     }
 }

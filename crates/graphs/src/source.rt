@@ -6,11 +6,8 @@ use crate::link::Link;
 
 // A graph in some form. Its answers are those of the graph that it means, and a question changes nothing.
 pub trait Source {
-    // The graph that it means,
+    // The graph that it means.
     ghost graph: { Self → Graph };
-
-    // which is lawful.
-    ghost lawful: { (s : Self) → Lawful (graph s) };
 
     // How many entries there are.
     fn entries(&self) -> usize
@@ -27,4 +24,7 @@ pub trait Source {
     // Whether two entries hold the same value; no where one of the numbers is no entry's.
     fn same(&self, u: usize, v: usize) -> bool
         ensures { result ≡ (graph self.now).same u v };
+
+    // The graph is lawful.
+    ghost lawful: { (s : Self) → Lawful (graph s) };
 }

@@ -4,21 +4,13 @@ use Rattle.files.specs.Encoding.{raw_book, encode, Fits}
 use Rattle.files.specs.Reading.{Refused}
 use Rattle.files.specs.declared.counts.Counts.{Counts}
 use Rattle.graphs.specs.declared.link.Link.{Link}
+use Rattle.inputs.specs.Input.{most_input, program_room, book_file, value_kind}
 use Rattle.kinds.specs.Days.{day_bytes, day_shape}
 use Rattle.kinds.specs.Names.{text, name_shape}
 use Rattle.kinds.specs.Payloads.{Shape}
 use Rattle.refusals.specs.declared.Refusal.{Refusal}
 use Rattle.refusals.specs.declared.Refusal.TheVariants.{InputTooLong}
 use Rattle.imports.specs.declared.check.Import.{Import}
-use Rattle.imports.specs.Input.{book_file, value_kind}
-
--- the program takes at most so many bytes
-abbrev pub most_input : ℕ
-most_input = 8192
-
--- the room that the program has
-abbrev pub program_room : Counts
-program_room = record { entries = 16; links = 256 }
 
 -- a file passed the check: it is the file of some values and links for which there is room, the record counts them, and what was written again is the same
 pub record Passed {V : Type 0} (sh : Shape) (encoded : V → List ℕ) (room : Counts) (file : List ℕ) (i : Import) : Type 0 where

@@ -1,39 +1,18 @@
 // The import check.
 ghost use Rattle.std.specs.Prelude.{◌≡◌, ℕ, ◌≤◌, length};
-ghost use Rattle.files.specs.Books.{room_of};
+ghost use Rattle.inputs.specs.Input.{most_input, program_room};
 ghost use Rattle.imports.specs.Imports.{CheckedAs, Imported};
 
-use crate::input::{MOST_INPUT, book_file, holds_days};
-use files::counts::Counts;
 use files::read::read_book;
 use files::write::write_book;
 use graphs::link::Link;
-use kinds::calendar::{Calendar, FIRST_YEAR};
+use inputs::{MOST_INPUT, ROOM_ENTRIES, ROOM_LINKS, book_file, holds_days};
 use kinds::day::Day;
 use kinds::kind::{Kind, Payload};
 use kinds::name::Name;
 use refusals::Refusal;
 
-// The program has room for so many entries,
-const ROOM_ENTRIES: usize = 16;
-
-// and for so many links.
-const ROOM_LINKS: usize = 256;
-
-// What the room for days and for names holds before a book is read.
-const NEW_YEAR: Day = Day {
-    calendar: Calendar::Gregorian,
-    year: FIRST_YEAR,
-    month: 1,
-    date: 1,
-};
-
-const NO_NAME: Name = Name {
-    len: 1,
-    bytes: [0; 128],
-};
-
-// The record of an import: how many entries, links and bytes the book has, and whether it was the same when it was written again.
+// The record of an import: how many entries, links and bytes the book has, and whether it was the same when it was written again. The counts stand in both cases, so two variants would be no plainer.
 #[derive(Clone, Copy, PartialEq, Eq, Debug)]
 pub struct Import {
     pub entries: usize,
@@ -42,28 +21,23 @@ pub struct Import {
     pub same: bool,
 }
 
-// Checks a file that holds values of one kind: reads it into two buffers, writes it again into a third, and compares.
-fn check_book<K: Kind>(
-    file: &[u8],
-    entries: &mut [K],
-    links: &mut [Link],
-    again: &mut [u8],
-) -> Result<Import, Refusal>
-    requires { length file.now ≤ length again.old }
-    ensures { CheckedAs K.Payload.Payload.shape K.Payload.Payload.encoded (room_of entries.old links.old) file.now result }
+// Checks a file that holds values of one kind: reads it, writes it again, and compares.
+// The caller makes the array of entries: of an array of any kind a proof does not know that it fits memory.
+fn check_as<K: Kind>(file: &[u8], entries: &mut [K]) -> Result<Import, Refusal>
+    requires short { length file.now ≤ most_input }
+    requires room { length entries.old ≡ ROOM_ENTRIES }
+    ensures { CheckedAs K.Payload.Payload.shape K.Payload.Payload.encoded program_room file.now result }
 {
-    let read = read_book::<K>(file, entries, links)?;
-    let Counts {
-        entries: n,
-        links: m,
-    } = read;
+    let mut links = [Link::default(); ROOM_LINKS];
+    let mut again = [0; MOST_INPUT];
+    let read = read_book(file, entries, &mut links)?;
     // What was read can be written, so this is never refused.
-    let size = write_book(&entries[0..n], &links[0..m], again)?;
+    let bytes = write_book(&entries[..read.entries], &links[..read.links], &mut again)?;
     Ok(Import {
-        entries: n,
-        links: m,
-        bytes: size,
-        same: &again[0..size] == file,
+        entries: read.entries,
+        links: read.links,
+        bytes,
+        same: &again[..bytes] == file,
     })
 }
 
@@ -75,17 +49,9 @@ pub fn check_import(input: &[u8]) -> Result<Import, Refusal>
         return Err(Refusal::InputTooLong);
     }
     let file = book_file(input);
-    let mut links = [Link {
-        from: 0,
-        letter: 0,
-        to: 0,
-    }; ROOM_LINKS];
-    let mut again = [0; MOST_INPUT];
     if holds_days(file) {
-        let mut days = [NEW_YEAR; ROOM_ENTRIES];
-        check_book::<Day>(file, &mut days, &mut links, &mut again)
+        check_as(file, &mut [Day::default(); ROOM_ENTRIES])
     } else {
-        let mut names = [NO_NAME; ROOM_ENTRIES];
-        check_book::<Name>(file, &mut names, &mut links, &mut again)
+        check_as(file, &mut [Name::default(); ROOM_ENTRIES])
     }
 }

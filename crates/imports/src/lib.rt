@@ -2,5 +2,4 @@
 #![tactic(auto)]
 
 pub mod check;
-pub mod input;
 pub mod report;

@@ -1,9 +1,9 @@
 -- The Gregorian and the Julian calendar from 1900 on. Assumes nothing.
-use Rattle.std.specs.Prelude.{◌≡◌, ℕ, zero, suc, ◌+◌, ◌-◌, ◌*◌, ◌%◌, Bool, true, cond, not, ◌&&◌, ◌||◌, List, [], ◌∷◌, map, ◌==◌, slice_index}
+use Rattle.std.specs.Prelude.{ℕ, ◌+◌, ◌-◌, ◌*◌, ◌%◌, Bool, cond, not, ◌&&◌, ◌||◌, List, [], ◌∷◌, map, ◌==◌, slice_index, sum, count_by, nat_le, if◌then◌else◌, Result, Ok, Err}
 use Rattle.std.specs.List.{range_with_len}
-use Rattle.std.specs.Str.{bytes_eq}
 use Rattle.kinds.specs.declared.calendar.Calendar.{Calendar}
 use Rattle.kinds.specs.declared.calendar.Calendar.TheVariants.{Gregorian, Julian}
+use Rattle.kinds.specs.declared.calendar.UnknownCalendar.{UnknownCalendar}
 
 -- Julian leap years are those divisible by 4; Gregorian ones leave out those divisible by 100 but not by 400
 abbrev pub leap : Calendar → ℕ → Bool
@@ -12,8 +12,7 @@ leap Julian y = y % 4 == 0
 
 -- how many of the k years from 1900 on are leap years
 abbrev pub leaps : Calendar → ℕ → ℕ
-leaps c zero = 0
-leaps c (suc k) = leaps c k + cond (leap c (1900 + k)) 1 0
+leaps c k = count_by (leap c) (range_with_len 1900 k)
 
 -- the day number of 1 January 1900
 abbrev pub start : Calendar → ℕ
@@ -28,11 +27,22 @@ new_year c y = start c + 365 * (y - 1900) + leaps c (y - 1900)
 abbrev pub month_length : Bool → ℕ → ℕ
 month_length long m = slice_index (0 ∷ 31 ∷ cond long 29 28 ∷ 31 ∷ 30 ∷ 31 ∷ 30 ∷ 31 ∷ 31 ∷ 30 ∷ 31 ∷ 30 ∷ 31 ∷ []) m
 
--- the days of the months before a month
+-- the days of the months before a month, which begin with month 1
 abbrev pub days_before : Bool → ℕ → ℕ
-days_before long zero = 0
-days_before long (suc m) = days_before long m + month_length long m
+days_before long m = sum (map (month_length long) (range_with_len 1 (m - 1)))
 
--- a table that holds, from 1900 on, the day numbers of 1 January of 300 years: a test that can be computed
-abbrev pub Ruled : Calendar → List ℕ → Type 0
-Ruled c table = bytes_eq table (map (new_year c) (range_with_len 1900 300)) ≡ true
+-- the calendar is 0 or 1 in a file
+abbrev pub calendar_byte : Calendar → ℕ
+calendar_byte Gregorian = 0
+calendar_byte Julian = 1
+
+abbrev pub calendar_of : ℕ → Calendar
+calendar_of b = cond (b == 0) Gregorian Julian
+
+-- a byte as a calendar; a byte that is no calendar's is told as it is
+abbrev pub calendar_from : ℕ → Result Calendar UnknownCalendar
+calendar_from b = if nat_le b 1 then Ok (calendar_of b) else Err (record { 0 = b })
+
+-- the day numbers of 1 January of the 300 years from 1900 on
+abbrev pub first_days : Calendar → List ℕ
+first_days c = map (new_year c) (range_with_len 1900 300)

@@ -1,9 +1,9 @@
 -- Days of two calendars, from 1900 to 2199. Assumes nothing.
-use Rattle.std.specs.Prelude.{◌≡◌, ℕ, ◌+◌, ◌-◌, ◌/◌, ◌%◌, Bool, cond, ◌&&◌, List, [], ◌∷◌, ◌==◌, nat_le, slice_index}
+use Rattle.std.specs.Prelude.{◌≡◌, ℕ, ◌+◌, ◌-◌, ◌/◌, ◌%◌, Bool, ◌&&◌, List, [], ◌∷◌, ◌==◌, nat_le, slice_index}
 use Rattle.kinds.specs.declared.calendar.Calendar.{Calendar}
-use Rattle.kinds.specs.declared.calendar.Calendar.TheVariants.{Gregorian, Julian}
+use Rattle.kinds.specs.declared.calendar.Calendar.TheVariants.{Gregorian}
 use Rattle.kinds.specs.declared.day.Day.{Day}
-use Rattle.kinds.specs.Calendars.{leap, new_year, month_length, days_before}
+use Rattle.kinds.specs.Calendars.{leap, new_year, month_length, days_before, calendar_byte, calendar_of}
 use Rattle.kinds.specs.Payloads.{Shape, word}
 use Rattle.kinds.specs.Ranges.{within}
 
@@ -29,14 +29,6 @@ same_day d e = day_number d == day_number e
 abbrev pub exists : Calendar → ℕ → ℕ → ℕ → Bool
 exists c y m d = (nat_le 1900 y && nat_le y 2199) && ((nat_le 1 m && nat_le m 12) && (nat_le 1 d && nat_le d (month_length (leap c y) m)))
 
--- the calendar is 0 or 1 in a file
-abbrev pub calendar_byte : Calendar → ℕ
-calendar_byte Gregorian = 0
-calendar_byte Julian = 1
-
-abbrev pub calendar_of : ℕ → Calendar
-calendar_of b = cond (b == 0) Gregorian Julian
-
 -- a payload of five bytes: the calendar, the year in two (the low one first), the month and the day
 abbrev pub day_bytes : Day → List ℕ
 day_bytes d = calendar_byte d.calendar ∷ year_of d % 256 ∷ year_of d / 256 ∷ month_of d ∷ date_of d ∷ []
@@ -48,6 +40,10 @@ day_of p = record { calendar = calendar_of (slice_index p 0); year = word (slice
 -- a payload is a day's when its calendar is 0 or 1 and the day exists
 abbrev pub day_shape : Shape
 day_shape = record { number = 2; least = 5; most = 5; proper = λ p. nat_le (slice_index p 0) 1 && exists (calendar_of (slice_index p 0)) (word (slice_index p 1) (slice_index p 2)) (slice_index p 3) (slice_index p 4) }
+
+-- 1 January 1900
+abbrev pub first_day : Day
+first_day = record { calendar = Gregorian; year = 1900; month = 1; date = 1 }
 
 -- two days with the same calendar, year, month and day of the month
 pub record SameDate (d e : Day) : Type 0 where

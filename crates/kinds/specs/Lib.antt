@@ -3,5 +3,4 @@ pub mod Ranges
 pub mod Names
 pub mod Calendars
 pub mod Days
-pub mod Sameness
 pub mod Agreement

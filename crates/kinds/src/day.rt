@@ -1,13 +1,13 @@
 // Days, kind 2: days of the Gregorian or the Julian calendar, from 1900 to 2199.
 ghost use Rattle.std.specs.Prelude.{◌≡◌, ℕ, ◌<◌, ◌≤◌, if◌then◌else◌, Some, None, nat_le};
+ghost use Rattle.std.proofs.Common.{rules, refl};
+ghost use Rattle.std.specs.Cmp.Rules.{comparing};
 ghost use Rattle.kinds.specs.Agreement.{day_known};
-ghost use Rattle.kinds.specs.Days.{year_of, month_of, date_of, day_number, same_day, exists, calendar_of, day_bytes, day_of, day_shape, SameDate};
-ghost use Rattle.kinds.specs.Sameness.{day_reflexive, day_symmetric, day_transitive};
+ghost use Rattle.kinds.specs.Days.{year_of, month_of, date_of, day_number, same_day, exists, first_day, day_bytes, day_of, day_shape, SameDate};
 
 use crate::calendar::{Calendar, FIRST_YEAR, LAST_YEAR, YEARS};
 use crate::kind::{Kind, Payload};
 use crate::payload::{copy_front, kept_within};
-use crate::years::new_year;
 
 // The bytes of a payload.
 const PAYLOAD_SIZE: usize = 5;
@@ -26,12 +26,9 @@ impl Day {
     pub fn exists(&self) -> bool
         ensures { result ≡ exists self.now.calendar self.now.year self.now.month self.now.date }
     {
-        FIRST_YEAR <= self.year
-            && self.year <= LAST_YEAR
-            && 1 <= self.month
-            && self.month <= 12
-            && 1 <= self.date
-            && self.date <= self.calendar.month_length(self.year, self.month)
+        (FIRST_YEAR..=LAST_YEAR).contains(&self.year)
+            && (1..=12).contains(&self.month)
+            && (1..=self.calendar.month_length(self.year, self.month)).contains(&self.date)
     }
 
     // The year, the month and the day of the month that the fields stand for.
@@ -44,14 +41,14 @@ impl Day {
     fn in_month(&self) -> u8
         ensures { result ≡ month_of self.now }
     {
-        kept_within(12, self.month as u16) as u8
+        kept_within(12, u16::from(self.month)) as u8
     }
 
     fn on_date(&self) -> u8
         ensures { result ≡ date_of self.now }
     {
         let length = self.calendar.month_length(self.in_year(), self.in_month());
-        kept_within(length as u16, self.date as u16) as u8
+        kept_within(u16::from(length), u16::from(self.date)) as u8
     }
 
     // The days up to this one, counted from 1 January 1900 of the Gregorian calendar, which is 1.
@@ -59,8 +56,8 @@ impl Day {
         ensures { result ≡ day_number self.now }
     {
         let year = self.in_year();
-        let before = self.calendar.days_before(year, self.in_month()) as u32;
-        new_year(self.calendar, year) + before + (self.on_date() as u32 - 1)
+        let before = self.calendar.days_before(year, self.in_month());
+        self.calendar.new_year(year) + u32::from(before) + u32::from(self.on_date() - 1)
     }
 
     fn payload(&self) -> [u8; PAYLOAD_SIZE]
@@ -77,14 +74,33 @@ impl Day {
     }
 }
 
-fn calendar_of(byte: u8) -> Option<Calendar>
-    ensures { result ≡ (if nat_le byte 1 then Some (calendar_of byte) else None) }
-{
-    match byte {
-        0 => Some(Calendar::Gregorian),
-        1 => Some(Calendar::Julian),
-        _ => None,
+// The first day that exists.
+impl Default for Day {
+    ghost is_default = { λ d. d ≡ first_day };
+
+    fn default() -> Day {
+        Day {
+            calendar: Calendar::Gregorian,
+            year: FIRST_YEAR,
+            month: 1,
+            date: 1,
+        }
     }
+}
+
+// Days are the same when their day numbers are: one day has a date in each calendar.
+impl PartialEq for Day {
+    ghost eq = { same_day };
+
+    ghost laws = { Prim.search (comparing, rules) };
+
+    fn eq(&self, other: &Day) -> bool {
+        self.number() == other.number()
+    }
+}
+
+impl Eq for Day {
+    ghost laws = { Prim.search (comparing, rules) };
 }
 
 // The payload of a day: the calendar, the year in two bytes, the month and the day of the month.
@@ -106,16 +122,16 @@ impl Payload<Day> for DayPayload {
     }
 
     fn decode(payload: &[u8]) -> Option<Day> {
-        if payload.len() != PAYLOAD_SIZE {
+        let &[calendar, low, high, month, date] = payload else {
             return None;
-        }
-        let day = Day {
-            calendar: calendar_of(payload[0])?,
-            year: u16::from_le_bytes([payload[1], payload[2]]),
-            month: payload[3],
-            date: payload[4],
         };
-        if day.exists() { Some(day) } else { None }
+        let day = Day {
+            calendar: Calendar::try_from(calendar).ok()?,
+            year: u16::from_le_bytes([low, high]),
+            month,
+            date,
+        };
+        day.exists().then_some(day)
     }
 
     fn size(_value: &Day) -> usize {
@@ -128,23 +144,11 @@ impl Payload<Day> for DayPayload {
 }
 
 impl Kind for Day {
-    ghost alike = { same_day };
-
-    ghost reflexive = { day_reflexive };
-
-    ghost symmetric = { day_symmetric };
-
-    ghost transitive = { day_transitive };
+    ghost NUMBER = { 2 };
 
     const NUMBER: u16 = 2;
 
     type Payload = DayPayload;
 
-    fn file_number() -> u16 {
-        Self::NUMBER
-    }
-
-    fn same(&self, other: &Day) -> bool {
-        self.number() == other.number()
-    }
+    ghost numbered = { refl };
 }

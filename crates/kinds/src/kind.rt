@@ -39,28 +39,16 @@ pub trait Payload<V> {
         ensures { out.new ≡ overlaid (encoded value.now) out.old };
 }
 
-// What the entries of a book hold. Whatever the fields of a value are, it stands for a value of the kind: there is no invariant.
-pub trait Kind: Copy {
-    // Whether two values are the same,
-    ghost alike: { Self → Self → Bool };
-
-    // with the three laws of sameness.
-    ghost reflexive: { (x : Self) → alike x x ≡ true };
-
-    ghost symmetric: { (x y : Self) → alike x y ≡ true → alike y x ≡ true };
-
-    ghost transitive: { (x y z : Self) → alike x y ≡ true → alike y z ≡ true → alike x z ≡ true };
-
+// What the entries of a book hold, and when two values are the same: where `==` says so. Whatever the fields of a value are, it stands for a value of the kind: there is no invariant.
+pub trait Kind: Copy + Eq {
     // The number by which the head of a file names the kind.
+    ghost NUMBER: { ℕ };
+
     const NUMBER: u16;
 
+    // How values stand in a file.
     type Payload: Payload<Self>;
 
-    // `NUMBER`, tied to the shape that generic code cites.
-    fn file_number() -> u16
-        ensures { result ≡ Self.Payload.Payload.shape.number };
-
-    // Whether the two are the same.
-    fn same(&self, other: &Self) -> bool
-        ensures { result ≡ alike self.now other.now };
+    // The shape of the payloads has the kind's number.
+    ghost numbered: { NUMBER ≡ Self.Payload.Payload.shape.number };
 }

@@ -1,10 +1,9 @@
 // Names, kind 1: 1 to 128 bytes of any content.
-ghost use Rattle.std.specs.Prelude.{◌≡◌, ℕ, ◌≤◌, length};
-ghost use Rattle.std.specs.Str.{bytes_eq};
-ghost use Rattle.kinds.specs.Agreement.{name_known};
+ghost use Rattle.std.specs.Prelude.{◌≡◌, ℕ, ◌≤◌, [], ◌∷◌, length};
+ghost use Rattle.std.proofs.Common.{rules, refl};
+ghost use Rattle.std.specs.Cmp.Rules.{comparing};
 ghost use Rattle.kinds.specs.Names.{text, same_name, name_shape, name_of, SameText};
 ghost use Rattle.kinds.specs.Ranges.{within};
-ghost use Rattle.kinds.specs.Sameness.{name_reflexive, name_symmetric, name_transitive};
 
 use crate::kind::{Kind, Payload};
 use crate::payload::{copy_front, kept_within};
@@ -24,16 +23,36 @@ impl Name {
         ensures is { result.now ≡ text self.now }
         ensures size { length result.now ≡ within 128 self.now.len }
     {
-        let size = kept_within(MOST_BYTES as u16, self.len as u16) as usize;
-        &self.bytes[0..size]
+        let size = kept_within(MOST_BYTES as u16, u16::from(self.len));
+        &self.bytes[..usize::from(size)]
     }
 }
 
-// Whether two texts have the same length and the same bytes.
-fn same_bytes(a: &[u8], b: &[u8]) -> bool
-    ensures { result ≡ bytes_eq a.now b.now }
-{
-    a == b
+// The name of one byte 0.
+impl Default for Name {
+    ghost is_default = { λ n. n ≡ name_of (0 ∷ []) };
+
+    fn default() -> Name {
+        Name {
+            len: 1,
+            bytes: [0; MOST_BYTES],
+        }
+    }
+}
+
+// Names are the same when their texts are: the bytes stored past the end do not count.
+impl PartialEq for Name {
+    ghost eq = { same_name };
+
+    ghost laws = { Prim.search (comparing, rules) };
+
+    fn eq(&self, other: &Name) -> bool {
+        self.text() == other.text()
+    }
+}
+
+impl Eq for Name {
+    ghost laws = { Prim.search (comparing, rules) };
 }
 
 // The name that a payload stands for: past its end all is 0.
@@ -44,7 +63,7 @@ fn name_of(payload: &[u8]) -> Name
     ensures back { text result ≡ payload.now }
 {
     let mut bytes = [0; MOST_BYTES];
-    copy_front(payload, &mut bytes);
+    bytes[..payload.len()].copy_from_slice(payload);
     Name {
         len: payload.len() as u8,
         bytes,
@@ -63,18 +82,14 @@ impl Payload<Name> for NamePayload {
 
     ghost agree = { SameText };
 
-    ghost known = { name_known };
+    ghost known = { λ x y e. e };
 
     fn fits(length: usize) -> bool {
-        1 <= length && length <= MOST_BYTES
+        (1..=MOST_BYTES).contains(&length)
     }
 
     fn decode(payload: &[u8]) -> Option<Name> {
-        if NamePayload::fits(payload.len()) {
-            Some(name_of(payload))
-        } else {
-            None
-        }
+        NamePayload::fits(payload.len()).then(|| name_of(payload))
     }
 
     fn size(value: &Name) -> usize {
@@ -87,23 +102,11 @@ impl Payload<Name> for NamePayload {
 }
 
 impl Kind for Name {
-    ghost alike = { same_name };
-
-    ghost reflexive = { name_reflexive };
-
-    ghost symmetric = { name_symmetric };
-
-    ghost transitive = { name_transitive };
+    ghost NUMBER = { 1 };
 
     const NUMBER: u16 = 1;
 
     type Payload = NamePayload;
 
-    fn file_number() -> u16 {
-        Self::NUMBER
-    }
-
-    fn same(&self, other: &Name) -> bool {
-        same_bytes(self.text(), other.text())
-    }
+    ghost numbered = { refl };
 }

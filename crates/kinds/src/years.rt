@@ -1,31 +1,28 @@
 // The first days of the years from 1900 to 2199, in two tables of 300 numbers.
 ghost use Rattle.std.specs.Prelude.{◌≡◌, ℕ, ◌<◌, ◌≤◌};
-ghost use Rattle.kinds.specs.Calendars.{new_year, Ruled};
+ghost use Rattle.kinds.specs.Calendars.{new_year, first_days};
 
-use crate::calendar::{Calendar, FIRST_YEAR};
+use crate::calendar::{Calendar, FIRST_YEAR, LAST_YEAR};
 
-// The day number of 1 January of a year, by its calendar.
-pub(crate) fn new_year(calendar: Calendar, year: u16) -> u32
-    requires first { 1900 ≤ year }
-    requires last { year ≤ 2199 }
-    ensures is { result ≡ new_year calendar year }
-    ensures small { result < 120000 }
-{
-    match calendar {
-        Calendar::Gregorian => year_in(Calendar::Gregorian, &GREGORIAN, year),
-        Calendar::Julian => year_in(Calendar::Julian, &JULIAN, year),
+impl Calendar {
+    // The day number of 1 January of a year, by the calendar.
+    pub(crate) fn new_year(self, year: u16) -> u32
+        requires first { FIRST_YEAR ≤ year }
+        requires last { year ≤ LAST_YEAR }
+        ensures is { result ≡ new_year self year }
+        ensures small { result < 120000 }
+    {
+        self.first_days()[usize::from(year - FIRST_YEAR)]
     }
-}
 
-// The day number of 1 January, from the table of a calendar.
-fn year_in(calendar: Calendar, table: &[u32], year: u16) -> u32
-    requires rule { Ruled calendar table.now }
-    requires first { 1900 ≤ year }
-    requires last { year ≤ 2199 }
-    ensures is { result ≡ new_year calendar year }
-    ensures small { result < 120000 }
-{
-    table[(year - FIRST_YEAR) as usize]
+    fn first_days(self) -> &'static [u32; 300]
+        ensures { result.now ≡ first_days self }
+    {
+        match self {
+            Calendar::Gregorian => &GREGORIAN,
+            Calendar::Julian => &JULIAN,
+        }
+    }
 }
 
 // The day number of 1 January of each year from 1900 on.

@@ -1,7 +1,7 @@
 -- The texts of the lines, and what the making of a line answers and leaves in memory. Assumes nothing.
 use Rattle.std.specs.Prelude.{◌≡◌, ℕ, List, [], ◌∷◌, ◌++◌, length, take, drop, Some, None, Ok, Err, codes, decimal, Result, nat_lt}
 use Rattle.refusals.specs.Rows.{Row, first_refusal}
-use Rattle.refusals.specs.Table.{number, place}
+use Rattle.refusals.specs.Table.{refusal_text}
 use Rattle.refusals.specs.declared.Refusal.{Refusal}
 use Rattle.refusals.specs.declared.Refusal.TheVariants.{TextTooShort}
 
@@ -11,23 +11,23 @@ newline = 10 ∷ []
 
 -- refused 13 at 6
 abbrev pub refusal_line : Refusal → List ℕ
-refusal_line x = codes "refused " ++ (decimal (number x) ++ (codes " at " ++ (decimal (place x) ++ newline)))
+refusal_line x = refusal_text x ++ newline
 
 -- entries 4 links 4 bytes 85
 abbrev pub record_line : ℕ → ℕ → ℕ → List ℕ
-record_line entries links bytes = codes "entries " ++ (decimal entries ++ (codes " links " ++ (decimal links ++ (codes " bytes " ++ (decimal bytes ++ newline)))))
+record_line entries links bytes = codes "entries " ++ decimal entries ++ codes " links " ++ decimal links ++ codes " bytes " ++ decimal bytes ++ newline
 
 -- entries 4 pairs 3
 abbrev pub first_line : ℕ → ℕ → List ℕ
-first_line entries pairs = codes "entries " ++ (decimal entries ++ (codes " pairs " ++ (decimal pairs ++ newline)))
+first_line entries pairs = codes "entries " ++ decimal entries ++ codes " pairs " ++ decimal pairs ++ newline
 
 -- 0 2 2
 abbrev pub pair_line : ℕ → ℕ → ℕ → List ℕ
-pair_line u v steps = decimal u ++ (codes " " ++ (decimal v ++ (codes " " ++ (decimal steps ++ newline))))
+pair_line u v steps = decimal u ++ codes " " ++ decimal v ++ codes " " ++ decimal steps ++ newline
 
 -- 0 2 long
 abbrev pub long_line : ℕ → ℕ → List ℕ
-long_line u v = decimal u ++ (codes " " ++ (decimal v ++ (codes " long" ++ newline)))
+long_line u v = decimal u ++ codes " " ++ decimal v ++ codes " long" ++ newline
 
 -- the row that the making of a line is held to, for a buffer of so many bytes
 abbrev pub line_rows : List ℕ → ℕ → List Row

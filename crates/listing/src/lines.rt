@@ -1,23 +1,22 @@
 // The lines of an import, of an answer and of a refusal.
-ghost use Rattle.std.specs.Prelude.{◌≡◌, ℕ};
+ghost use Rattle.std.specs.Prelude.{◌≡◌, ℕ, ◌≤◌, length, flat_map, sum_by};
 ghost use Rattle.listing.specs.Lines.{refusal_line, record_line, first_line, pair_line, long_line, Lined};
 
-use crate::piece::{Piece, make_line};
+use itoa::Buffer;
 use refusals::Refusal;
 
 // The line of a refusal: its number and its place, as `refused 13 at 6`.
 pub fn refusal_line(refusal: Refusal, out: &mut [u8]) -> Result<usize, Refusal>
-    ensures { Lined (refusal_line refusal) out.old out.new result }
+    ensures lined { Lined (refusal_line refusal) out.old out.new result }
+    ensures short { length (refusal_line refusal) ≤ 128 }
 {
-    let number = refusal.number() as usize;
-    let place = refusal.place();
-    make_line(
+    put_line(
         &[
-            Piece::Word(b"refused "),
-            Piece::Number(number),
-            Piece::Word(b" at "),
-            Piece::Number(place),
-            Piece::Word(b"\n"),
+            "refused ",
+            Buffer::new().format(refusal.number()),
+            " at ",
+            Buffer::new().format(refusal.place()),
+            "\n",
         ],
         out,
     )
@@ -30,17 +29,18 @@ pub fn record_line(
     bytes: usize,
     out: &mut [u8],
 ) -> Result<usize, Refusal>
-    ensures { Lined (record_line entries links bytes) out.old out.new result }
+    ensures lined { Lined (record_line entries links bytes) out.old out.new result }
+    ensures short { length (record_line entries links bytes) ≤ 128 }
 {
-    make_line(
+    put_line(
         &[
-            Piece::Word(b"entries "),
-            Piece::Number(entries),
-            Piece::Word(b" links "),
-            Piece::Number(links),
-            Piece::Word(b" bytes "),
-            Piece::Number(bytes),
-            Piece::Word(b"\n"),
+            "entries ",
+            Buffer::new().format(entries),
+            " links ",
+            Buffer::new().format(links),
+            " bytes ",
+            Buffer::new().format(bytes),
+            "\n",
         ],
         out,
     )
@@ -48,15 +48,16 @@ pub fn record_line(
 
 // The first line of an answer: how many entries the book has, and how many pairs are joined, as `entries 4 pairs 3`.
 pub fn first_line(entries: usize, pairs: usize, out: &mut [u8]) -> Result<usize, Refusal>
-    ensures { Lined (first_line entries pairs) out.old out.new result }
+    ensures lined { Lined (first_line entries pairs) out.old out.new result }
+    ensures short { length (first_line entries pairs) ≤ 128 }
 {
-    make_line(
+    put_line(
         &[
-            Piece::Word(b"entries "),
-            Piece::Number(entries),
-            Piece::Word(b" pairs "),
-            Piece::Number(pairs),
-            Piece::Word(b"\n"),
+            "entries ",
+            Buffer::new().format(entries),
+            " pairs ",
+            Buffer::new().format(pairs),
+            "\n",
         ],
         out,
     )
@@ -64,16 +65,17 @@ pub fn first_line(entries: usize, pairs: usize, out: &mut [u8]) -> Result<usize,
 
 // The line of a joined pair: its entries and the fewest steps, as `0 2 2`.
 pub fn pair_line(u: usize, v: usize, steps: usize, out: &mut [u8]) -> Result<usize, Refusal>
-    ensures { Lined (pair_line u v steps) out.old out.new result }
+    ensures lined { Lined (pair_line u v steps) out.old out.new result }
+    ensures short { length (pair_line u v steps) ≤ 128 }
 {
-    make_line(
+    put_line(
         &[
-            Piece::Number(u),
-            Piece::Word(b" "),
-            Piece::Number(v),
-            Piece::Word(b" "),
-            Piece::Number(steps),
-            Piece::Word(b"\n"),
+            Buffer::new().format(u),
+            " ",
+            Buffer::new().format(v),
+            " ",
+            Buffer::new().format(steps),
+            "\n",
         ],
         out,
     )
@@ -81,16 +83,35 @@ pub fn pair_line(u: usize, v: usize, steps: usize, out: &mut [u8]) -> Result<usi
 
 // The line of a pair whose paths are all long, as `0 2 long`.
 pub fn long_line(u: usize, v: usize, out: &mut [u8]) -> Result<usize, Refusal>
-    ensures { Lined (long_line u v) out.old out.new result }
+    ensures lined { Lined (long_line u v) out.old out.new result }
+    ensures short { length (long_line u v) ≤ 128 }
 {
-    make_line(
+    put_line(
         &[
-            Piece::Number(u),
-            Piece::Word(b" "),
-            Piece::Number(v),
-            Piece::Word(b" long"),
-            Piece::Word(b"\n"),
+            Buffer::new().format(u),
+            " ",
+            Buffer::new().format(v),
+            " long\n",
         ],
         out,
     )
+}
+
+// Puts the pieces of a line behind each other at the front of a buffer. `write!` would not do: no contract says when a writer fails, and a refusal has to leave the buffer as it was.
+fn put_line(pieces: &[&str], out: &mut [u8]) -> Result<usize, Refusal>
+    requires { sum_by (λ piece. length piece.now) pieces.now ≤ usize.MAX }
+    ensures { Lined (flat_map (λ piece. piece.now) pieces.now) out.old out.new result }
+{
+    let size = pieces.iter().map(|piece| piece.len()).sum();
+    if out.len() < size {
+        return Err(Refusal::TextTooShort);
+    }
+    // By offset: after a loop that splits the buffer, a proof knows no more than its length.
+    let mut at = 0;
+    for piece in pieces {
+        let end = at + piece.len();
+        out[at..end].copy_from_slice(piece.as_bytes());
+        at = end;
+    }
+    Ok(size)
 }

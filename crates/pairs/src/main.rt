@@ -2,12 +2,9 @@
 #![tactic(auto)]
 
 use anyhow::anyhow;
-use imports::input::MOST_INPUT;
 use imports::report::{Report, report_on};
+use inputs::{LINE, MOST_INPUT};
 use std::io::{Read, Write};
-
-// More than the longest line.
-const LINE: usize = 128;
 
 // A refusal ends the program with status 1, so that no script takes it for an answer.
 fn main(rt: HostRuntime) -> anyhow::Result<()> {
@@ -16,13 +13,10 @@ fn main(rt: HostRuntime) -> anyhow::Result<()> {
         .take(MOST_INPUT as u64 + 1)
         .read_to_end(&mut input)?;
     let mut line = [0; LINE];
-    let Ok(Report { length, accepted }) = report_on(input.as_slice(), &mut line) else {
-        return Err(anyhow!("the line is too long"));
-    };
-    rt.stdout().write_all(&line[0..length])?;
-    if accepted {
-        Ok(())
-    } else {
-        Err(anyhow!("refused"))
+    let report = report_on(&input, &mut line).unwrap();
+    rt.stdout().write_all(&line[..report.length()])?;
+    match report {
+        Report::Accepted(_) => Ok(()),
+        Report::Refused(_) => Err(anyhow!("refused")),
     }
 }

@@ -1,25 +1,66 @@
--- What the first pair of a scan says of a call of next. Assumes nothing.
-use Rattle.std.proofs.Common.{ℕ, ◌+◌, Some, None, Option, inl, inr, arith}
-use Rattle.queries.specs.Pairs.{First, From, Before}
+-- The first pair of a block, from the place where its cell stands. Assumes nothing.
+use Rattle.std.proofs.Common.{◌≡◌, ℕ, ◌+◌, ◌-◌, ◌*◌, ◌/◌, ◌%◌, ◌<◌, ◌≤◌, false, leb, List, length, get_or, Some, None, ap, ◌∙◌, arith}
+use Rattle.std.proofs.lemmas.Bool.{leb-true, leb-false}
+use Rattle.std.proofs.lemmas.Bool.Decides.{nat_tests}
+use Rattle.std.proofs.lemmas.List.Edits.{length-between, get_or-between}
+use Rattle.std.proofs.lemmas.List.Quantifiers.{position-Some}
+use Rattle.std.proofs.lemmas.List.Sums.{fails_before_first}
+use Rattle.std.proofs.lemmas.Nat.{row_fits, mul-add-lt, div-add-mod', mod_below, div_below}
+use Rattle.std.specs.List.{slice_range, position}
+use Rattle.languages.specs.Cells.{long}
+use Rattle.tables.specs.Blocks.{cell}
+use Rattle.queries.specs.Pairs.{First, FirstIs, From, Before, Near}
 
--- a first pair, of the same pairs in other words
-pub first_same : (P Q : ℕ → ℕ → Type 0) (n : ℕ) (R : ℕ → ℕ → Type 0) → ((a b : ℕ) → P a b → Q a b) → ((a b : ℕ) → Q a b → P a b) → (r : Option (ℕ × ℕ)) → First P n R r → First Q n R r
-first_same P Q n R to back None f = λ a b h k q. f a b h k (back a b q)
-first_same P Q n R to back (Some pair) f = record {
-  row = f.row;
-  column = f.column;
-  reached = to _ _ f.reached;
-  holds = f.holds;
-  none_before = λ a b h k q. f.none_before a b h k (back a b q);
-}
+-- the pairs in their order are the places in theirs
+from_place : (n u v a b : ℕ) → v ≤ n → From u v a b → u * n + v ≤ a * n + b
+from_place n u v a b h k = grind (arith, row_fits)
 
-pub from_after : (u v a b : ℕ) → From u (v + 1) a b → Before u v a b
-from_after u v a b (inl h) = inl h
-from_after u v a b (inr h) = inr (h.0, omega arith)
+place_from : (n u v a b : ℕ) → b < n → u * n + v ≤ a * n + b → From u v a b
+place_from n u v a b h k = grind (arith, row_fits)
 
-pub after_from : (u v a b : ℕ) → Before u v a b → From u (v + 1) a b
-after_from u v a b (inl h) = inl h
-after_from u v a b (inr h) = inr (h.0, omega arith)
+before_place : (n u v a b : ℕ) → v < n → Before u v a b → u * n + v < a * n + b
+before_place n u v a b h k = grind (arith, row_fits)
 
-pub all_from : (a b : ℕ) → From 0 0 a b
-all_from a b = grind arith
+some_entry : (n k : ℕ) → k < n * n → 0 < n
+some_entry n k h = grind arith
+
+all_far : (xs : List ℕ) (k : ℕ) → position (λ c. leb c long) xs ≡ None → k < length xs → leb (get_or xs k 0) long ≡ false
+all_far xs k e h = grind (arith, nat_tests, fails_before_first (λ c. leb c long) xs k 0)
+
+-- in a block, and its cells from that of (u, v) on
+module _ (block rest : List ℕ) (n u v : ℕ) (size : length block ≡ n * n) (column : v ≤ n) (within : u * n + v ≤ length block) (is : rest ≡ slice_range block (u * n + v) (length block)) where
+  rest_length : length rest ≡ n * n - (u * n + v)
+  rest_length = rw (is, length-between block (u * n + v) (length block) (omega arith)) (omega arith)
+
+  rest_cell : (a b : ℕ) → u * n + v ≤ a * n + b → a * n + b < n * n → get_or rest (a * n + b - (u * n + v)) 0 ≡ cell block 0 n a b
+  rest_cell a b h k =
+      let e : u * n + v + (a * n + b - (u * n + v)) ≡ 0 + (a * n + b) = omega arith in
+      rw is
+      (get_or-between block (u * n + v) (length block) (a * n + b - (u * n + v)) 0 (omega arith) ∙ ap (λ i. get_or block i 0) e)
+
+  pub first_none : position (λ c. leb c long) rest ≡ None → First (From u v) n (Near (cell block 0 n)) None
+  first_none e a b h k r s =
+      let p = from_place n u v a b column r in
+      let m = mul-add-lt a n b n h k in
+      omega (arith, leb-false _ _ (all_far rest (a * n + b - (u * n + v)) e (omega (arith, rest_length))), rest_cell a b p m)
+
+  pub first_some : (i : ℕ) → position (λ c. leb c long) rest ≡ Some i → FirstIs (From u v) n (Near (cell block 0 n)) ((u * n + v + i) / n) ((u * n + v + i) % n)
+  first_some i e =
+      let at = u * n + v + i in
+      let p = position-Some (λ c. leb c long) rest i 0 e in
+      let m : at < n * n = omega (arith, p.0, rest_length) in
+      let z : 0 < n = some_entry n at m in
+      let d : at / n * n + at % n ≡ at = div-add-mod' at n in
+      let y : at % n < n = mod_below at n z in
+      record {
+        row = div_below at n n z m;
+        column = y;
+        reached = place_from n u v (at / n) (at % n) y (omega arith);
+        holds =
+            let f : at / n * n + at % n - (u * n + v) ≡ i = omega arith in
+            omega (arith, leb-true _ _ p.1, ap (λ k. get_or rest k 0) f, rest_cell (at / n) (at % n) (omega arith) (omega arith));
+        none_before = λ a b h k r o s.
+            let q = from_place n u v a b column r in
+            let l = before_place n a b (at / n) (at % n) k o in
+            omega (arith, leb-false _ _ (p.2 (a * n + b - (u * n + v)) (omega arith)), rest_cell a b q (omega arith));
+      }

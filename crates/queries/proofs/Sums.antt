@@ -1,14 +1,27 @@
--- Sums over the numbers below a bound. Assumes nothing.
-use Rattle.std.proofs.Common.{◌≡◌, ℕ, ◌+◌, ◌<◌, ◌≤◌, refl, add-one, arith}
-use Rattle.std.proofs.lemmas.Bool.Decides.{nat_tests}
-use Rattle.languages.specs.Cells.{long}
-use Rattle.queries.specs.Pairs.{sum_to, near}
+-- The number of near cells in a block is the tally of its pairs. Assumes nothing.
+use Rattle.std.proofs.Common.{◌≡◌, ℕ, zero, suc, ◌+◌, ◌*◌, ◌<◌, ◌≤◌, List, length, get_or, take, refl, ap, ◌∙◌, subst, add-zero, arith}
+use Rattle.std.proofs.lemmas.List.{take_all}
+use Rattle.std.proofs.lemmas.List.Sums.{sum_by_more}
+use Rattle.std.proofs.lemmas.Nat.{mul-add-lt}
+use Rattle.std.specs.List.{sum_by}
+use Rattle.tables.specs.Blocks.{cell}
+use Rattle.queries.specs.Pairs.{sum_to, near, tallied}
 
-pub sum_more : (f : ℕ → ℕ) (n : ℕ) → sum_to f (n + 1) ≡ sum_to f n + f n
-sum_more f n = rw add-one refl
+module _ (block : List ℕ) (d : ℕ → ℕ → ℕ) (n : ℕ) (size : length block ≡ n * n) (cells : (u v : ℕ) → u < n → v < n → cell block 0 n u v ≡ d u v) where
+  row_tally : (u v : ℕ) → u < n → v ≤ n → sum_by near (take (u * n + v) block) ≡ sum_by near (take (u * n) block) + sum_to (λ w. near (d u w)) v
+  row_tally u zero h k = rw (add-zero, add-zero) refl
+  row_tally u (suc v) h k =
+      let e : u * n + suc v ≡ u * n + v + 1 = omega arith in
+      let m : u * n + v < length block = omega (arith, mul-add-lt u n v n h (omega arith)) in
+      let i : u * n + v ≡ 0 + (u * n + v) = omega arith in
+      let c = ap (λ k. near (get_or block k 0)) i ∙ ap near (cells u v h (omega arith)) in
+      rw e (omega (arith, sum_by_more near block (u * n + v) 0 m, row_tally u v h (omega arith), c))
 
-pub near_yes : (c : ℕ) → c ≤ long → near c ≡ 1
-near_yes c h = grind (arith, nat_tests)
+  rows_tally : (u : ℕ) → u ≤ n → sum_by near (take (u * n) block) ≡ tallied d n u
+  rows_tally zero h = let e : 0 * n ≡ 0 = omega arith in rw e refl
+  rows_tally (suc u) h =
+      let e : suc u * n ≡ u * n + n = omega arith in
+      rw e (omega (arith, row_tally u n (omega arith) (omega arith), rows_tally u (omega arith)))
 
-pub near_no : (c : ℕ) → long < c → near c ≡ 0
-near_no c h = grind (arith, nat_tests)
+  pub block_tally : sum_by near block ≡ tallied d n n
+  block_tally = subst (λ l. sum_by near l ≡ tallied d n n) (take_all (n * n) block (omega arith)) (rows_tally n (omega arith))

@@ -9,10 +9,10 @@ use Rattle.refusals.specs.declared.Refusal.{Refusal}
 use Rattle.refusals.specs.declared.Refusal.TheVariants.{QueryBlank, SourceTooLarge, TableTooShort, NotEvaluated, NoSuchEntry, TableCut}
 use Rattle.tables.specs.Tables.{block_at, Filled}
 use Rattle.queries.specs.declared.condition.Condition.{Condition}
-use Rattle.queries.specs.declared.condition.Condition.TheVariants.{Parsed, Evaluated}
+use Rattle.queries.specs.declared.condition.Condition.TheVariants.{Parsed}
 use Rattle.queries.specs.declared.found.Found.{Found}
 use Rattle.queries.specs.declared.found.Found.TheVariants.{Steps, Long, Absent}
-use Rattle.queries.specs.Conditions.{is_blank, is_evaluated, parts_in, count_in, entries_in, list_in, whole_cell}
+use Rattle.queries.specs.Conditions.{is_blank, is_evaluated, list_in, count_in, entries_in, evaluated, whole_cell}
 use Rattle.queries.specs.Pairs.{After, First, Near, tallied}
 
 -- a source has at most so many entries
@@ -41,7 +41,7 @@ evaluate_rows q g table =
 
 -- an evaluation: every cell of every part is that of its expression over the graph, and no other cell has changed; a refused one changes nothing
 abbrev pub Evaluates : Condition → Graph → List ℕ → Condition → List ℕ → Result Unit Refusal → Type 0
-Evaluates q g table q' table' (Ok done) = (first_refusal (evaluate_rows q g table) ≡ None) × (q' ≡ Evaluated (parts_in q) g.entries) × Filled g (list_in q) (count_in q) table table'
+Evaluates q g table q' table' (Ok done) = (first_refusal (evaluate_rows q g table) ≡ None) × (q' ≡ evaluated q g.entries) × Filled g (list_in q) (count_in q) table table'
 Evaluates q g table q' table' (Err x) = (first_refusal (evaluate_rows q g table) ≡ Some x) × (q' ≡ q) × (table' ≡ table)
 
 -- a pair, if one is given, that is not among n entries

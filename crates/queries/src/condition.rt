@@ -6,5 +6,5 @@ use expressions::part::Parts;
 pub enum Condition {
     Blank,
     Parsed(Parts),
-    Evaluated(Parts, usize),
+    Evaluated { parts: Parts, entries: usize },
 }

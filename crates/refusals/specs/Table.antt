@@ -1,5 +1,5 @@
--- The number and the place of each refusal. Assumes nothing.
-use Rattle.std.specs.Prelude.{ℕ}
+-- The number, the place and the text of each refusal. Assumes nothing.
+use Rattle.std.specs.Prelude.{ℕ, List, ◌++◌, codes, decimal}
 use Rattle.refusals.specs.declared.Refusal.{Refusal}
 use Rattle.refusals.specs.declared.Refusal.TheVariants.{InputTooLong, HeadingCut, PayloadCut, RecordMisplaced, OtherValueKind, LengthUnfit, NoSuchDay, LinkUnsound, TooManyEntries, TooManyLinks, SheetOutOfRange, NotAnExpression, TooManyParts, WordingTooLong, QueryBlank, SourceTooLarge, TableTooShort, NotEvaluated, NoSuchEntry, TableCut, TextTooShort, BookUnwritable, BytesTooShort}
 
@@ -54,3 +54,7 @@ place TableCut = 0
 place TextTooShort = 0
 place BookUnwritable = 0
 place BytesTooShort = 0
+
+-- what a refusal prints: refused 13 at 6
+abbrev pub refusal_text : Refusal → List ℕ
+refusal_text x = codes "refused " ++ decimal (number x) ++ codes " at " ++ decimal (place x)

@@ -1,8 +1,11 @@
 // Why a call is refused: one enum for the whole library, with the number and the place that each case has.
 #![tactic(auto)]
 
-ghost use Rattle.std.specs.Prelude.{◌≡◌, ℕ};
-ghost use Rattle.refusals.specs.Table.{number, place};
+ghost use Rattle.std.specs.Prelude.{◌≡◌, ℕ, Some};
+ghost use Rattle.refusals.specs.Table.{number, place, refusal_text};
+
+use std::error::Error;
+use std::fmt;
 
 // Each case is named for what is wrong; `at` is the offset in the file of the record that is refused, or in a wording of the byte that spoils it.
 #[derive(Clone, Copy, PartialEq, Eq, Debug)]
@@ -77,19 +80,19 @@ impl Refusal {
             | Refusal::TooManyEntries { at }
             | Refusal::NotAnExpression { at }
             | Refusal::TooManyLinks { at } => at,
-            Refusal::InputTooLong
-            | Refusal::SheetOutOfRange
-            | Refusal::TooManyParts
-            | Refusal::WordingTooLong
-            | Refusal::QueryBlank
-            | Refusal::SourceTooLarge
-            | Refusal::TableTooShort
-            | Refusal::NotEvaluated
-            | Refusal::NoSuchEntry
-            | Refusal::TableCut
-            | Refusal::TextTooShort
-            | Refusal::BookUnwritable
-            | Refusal::BytesTooShort => 0,
+            // The contract's table names each case, so that none is lost here.
+            _ => 0,
         }
     }
 }
+
+// Prints the number and the place, as `refused 13 at 6`.
+impl fmt::Display for Refusal {
+    ghost output = { λ refusal. Some (refusal_text refusal) };
+
+    fn fmt<W: fmt::Write>(&self, f: &mut fmt::Formatter<W>) -> fmt::Result {
+        write!(f, "refused {} at {}", self.number(), self.place())
+    }
+}
+
+impl Error for Refusal {}

@@ -1,5 +1,5 @@
-pub mod Writing
-pub mod Relaxing
-pub mod Testing
+pub mod Rows
+pub mod Least
 pub mod Marking
 pub mod Shown
+pub mod Filling

@@ -1,8 +1,8 @@
--- What the blocks of each form show, from what those of its halves show. Assumes nothing.
-use Rattle.std.proofs.Common.{◌≡◌, ℕ, ◌+◌, ◌-◌, ◌*◌, ◌<◌, ◌≤◌, min, Bool, true, false, cond, eqb, ltb, ◌⊎◌, List, length, get_or, Some, None, sym, refl, ap, ◌∙◌, subst, inl, inr, add-mul, one-mul, arith}
+-- What the block of each form shows, from what those of its halves show. Assumes nothing.
+use Rattle.std.proofs.Common.{◌≡◌, ℕ, ◌+◌, ◌-◌, ◌*◌, ◌<◌, ◌≤◌, min, Bool, true, false, cond, not, eqb, ◌⊎◌, List, length, take, drop, get_or, None, refl, sym, ap, ◌∙◌, subst, inl, inr, arith}
 use Rattle.std.proofs.lemmas.Nat.{mul-add-lt}
-use Rattle.std.proofs.lemmas.List.{get_or_past}
-use Rattle.std.proofs.lemmas.Bool.{cases_lt, ltb-true}
+use Rattle.std.proofs.lemmas.List.{places, get_or_past}
+use Rattle.std.proofs.lemmas.Bool.{cases_lt}
 use Rattle.expressions.proofs.Numbered.{part_made, stands}
 use Rattle.expressions.specs.Exprs.{Expr, epsilon, letter, either, join, plus, star, same, differ}
 use Rattle.expressions.specs.Numbering.{made, part_expr, stands_on, well_formed}
@@ -13,170 +13,132 @@ use Rattle.languages.proofs.Walks.{epsilon_cells, letter_cell, either_cells, joi
 use Rattle.languages.specs.Algebra.{sat_add, least_below, closed, Cells}
 use Rattle.languages.specs.Cells.{Cell, Lengths, none}
 use Rattle.languages.specs.Paths.{Linked}
-use Rattle.tables.specs.Blocks.{cell, kept_if, Wrote, Rows, Small}
-use Rattle.tables.specs.Marks.{Marked, link, LinkedBy}
-use Rattle.tables.specs.Tables.{Shows, AllShow, Filled, block_at}
-use Rattle.tables.proofs.Relaxing.{joined_to}
-use Rattle.tables.proofs.Writing.{row_end}
+use Rattle.tables.specs.Blocks.{block_cell, cell, Holds, KeptWhere}
+use Rattle.tables.specs.Marks.{Mark, Marked, LinkedBy}
+use Rattle.tables.specs.Tables.{AllShow}
+use Rattle.tables.proofs.Rows.{row_end}
 
 -- the arithmetic of blocks
-pub block_before : (q l m : ℕ) → l < q → l * m + m ≤ q * m
-block_before q l m h = row_end l m q h
-
 pub block_next : (q m : ℕ) → (q + 1) * m ≡ q * m + m
-block_next q m = add-mul q 1 m ∙ ap (λ k. q * m + k) (one-mul m)
-
-pub block_last : (q m : ℕ) → 0 < q → q * m - m ≡ (q - 1) * m
-block_last q m h =
-    let e : q - 1 + 1 ≡ q = omega arith in
-    let f : q * m ≡ (q - 1) * m + m = ap (λ k. k * m) (sym e) ∙ block_next (q - 1) m in
-    omega arith
+block_next q m = omega arith
 
 -- a part stands on parts before it
 pub part_stands : (parts : List Part) (q : ℕ) (x : Part) → well_formed 0 parts ≡ true → q < length parts → get_or parts q Epsilon ≡ x → stands_on q x ≡ true
 part_stands parts q x f h e = subst (λ y. stands_on q y ≡ true) e (subst (λ k. stands_on k (get_or parts q Epsilon) ≡ true) (omega arith) (stands 0 q parts f h))
 
--- cells that a block shows are small
-pub shown_small : (g : Graph) (n : ℕ) (e : Expr) (t : List ℕ) (base : ℕ) → Shows g n e t base → Small t base n
-shown_small g n e t base s u v p q = (s u v p q).small
+-- the cells of an expression are small
+pub shown_small : (g : Graph) (n : ℕ) (e : Expr) (block : List ℕ) → Cells n (Lengths g e) (block_cell n block) → (u v : ℕ) → u < n → v < n → block_cell n block u v ≤ none
+shown_small g n e block s u v p q = (s u v p q).small
 
--- the same block, in cells that are said in other words
-shown_as : (g : Graph) (n : ℕ) (e : Expr) (t : List ℕ) (base : ℕ) (d : ℕ → ℕ → ℕ) → Cells n (Lengths g e) d → ((u v : ℕ) → u < n → v < n → cell t base n u v ≡ d u v) → Shows g n e t base
-shown_as g n e t base d c h u v p q = subst (Cell (Lengths g e u v)) (sym (h u v p q)) (c u v p q)
+-- the same cells, where the entries are counted by another number
+pub counted_as : (W : ℕ → ℕ → ℕ → Type 0) (cells : List ℕ) (m n : ℕ) → m ≡ n → Cells m W (block_cell m cells) → Cells n W (block_cell n cells)
+counted_as W cells m n e = subst (λ k. Cells k W (block_cell k cells)) e
 
-pub copied_shown : (g : Graph) (n : ℕ) (e : Expr) (t t₁ : List ℕ) (from out : ℕ) → Wrote out (n * n) (λ i. get_or t (from + i) 0) t t₁ → Shows g n e t from → Shows g n e t₁ out
-copied_shown g n e t t₁ from out w a = shown_as g n e t₁ out (cell t from n) a (λ u v p q. w.cells (u * n + v) (mul-add-lt u n v n p q))
+-- the cells of an expression, said in other words
+pub shown_as : (g : Graph) (n : ℕ) (e : Expr) (block : List ℕ) (d : ℕ → ℕ → ℕ) → Cells n (Lengths g e) d → Holds n block d → Cells n (Lengths g e) (block_cell n block)
+shown_as g n e block d c h u v p q = subst (Cell (Lengths g e u v)) (sym (h u v p q)) (c u v p q)
 
-module _ (g : Graph) (n : ℕ) (eq : g.entries ≡ n) where
+module _ (g : Graph) (n : ℕ) (eq : n ≡ g.entries) where
   at_entries : (P : ℕ → Type 0) → P g.entries → P n
-  at_entries P x = subst P eq x
+  at_entries P x = subst P (sym eq) x
 
-  pub epsilon_shown : (t t₁ t₂ : List ℕ) (out : ℕ) → Wrote out (n * n) (λ _. none) t t₁ → Rows out n n (λ u v. cond (eqb u v) 0 (cell t₁ out n u v)) t₁ t₂ → Shows g n epsilon t₂ out
-  epsilon_shown t t₁ t₂ out w r =
-      shown_as g n epsilon t₂ out (λ u v. cond (eqb u v) 0 none) (at_entries (λ k. Cells k (Lengths g epsilon) (λ u v. cond (eqb u v) 0 none)) (epsilon_cells g))
-      (λ u v p q. r.cells u v p q ∙ ap (λ x. cond (eqb u v) 0 x) (w.cells (u * n + v) (mul-add-lt u n v n p q)))
+  -- the block of an earlier part
+  pub half_shown : (parts : List Part) (q k a m : ℕ) (done : List ℕ) → AllShow g parts q done → k < q → a ≡ k * (n * n) → n * n ≤ m → Cells n (Lengths g (part_expr parts k)) (block_cell n (take m (drop a done)))
+  half_shown parts q k a m done s h is le u v p r =
+      let i = mul-add-lt u n v n p r in
+      let at : get_or (take m (drop a done)) (u * n + v) 0 ≡ cell done (k * (n * n)) n u v = search (places, arith) in
+      subst (Cell (Lengths g (part_expr parts k) u v)) (sym at) (at_entries (λ k'. (u v : ℕ) → u < k' → v < k' → Cell (Lengths g (part_expr parts k) u v) (cell done (k * (k' * k')) k' u v)) (s k h) u v p r)
 
-  pub letter_shown : (a out : ℕ) (t t' : List ℕ) → Marked g (length g.places) a out n t t' → Shows g n (letter a) t' out
-  letter_shown a out t t' m u v p q =
-      letter_cell g a u v _ (omega arith) (omega arith) (told (m.marks u v p q))
+  pub epsilon_shown : (filled block : List ℕ) → Holds n filled (λ u v. none) → Holds n block (λ u v. cond (eqb u v) 0 (block_cell n filled u v)) → Cells n (Lengths g epsilon) (block_cell n block)
+  epsilon_shown filled block f h =
+      shown_as g n epsilon block (λ u v. cond (eqb u v) 0 none) (at_entries (λ k. Cells k (Lengths g epsilon) (λ u v. cond (eqb u v) 0 none)) (epsilon_cells g))
+      (λ u v p q. h u v p q ∙ ap (cond (eqb u v) 0) (f u v p q))
+
+  pub letter_shown : (a : ℕ) (block : List ℕ) → Marked g (length g.places) a n block → Cells n (Lengths g (letter a)) (block_cell n block)
+  letter_shown a block m u v p q =
+      letter_cell g a u v _ (omega arith) (omega arith) (told (m u v p q))
     where
       held : Linked g u a v → LinkedBy g (length g.places) u a v
       held l = (l.0, by_place (cases_lt l.0 (length g.places)), l.1)
         where
           by_place : (l.0 < length g.places) ⊎ (length g.places ≤ l.0) → l.0 < length g.places
           by_place (inl lt) = lt
-          by_place (inr ge) = absurd (past l.1 (get_or_past g.places l.0 None ge))
-            where
-              past : link_at g l.0 ≡ Some (link u a v) → link_at g l.0 ≡ None → ⊥
-              past x y = let z : ◌≡◌ {A = ℕ} 0 1 = cc in omega arith
+          by_place (inr ge) = let past : link_at g l.0 ≡ None = get_or_past g.places l.0 None ge in cc (past, l.1)
 
-      told : {x : ℕ} → (LinkedBy g (length g.places) u a v × (x ≡ 1)) ⊎ ((LinkedBy g (length g.places) u a v → ⊥) × (x ≡ none)) → (Linked g u a v × (x ≡ 1)) ⊎ ((Linked g u a v → ⊥) × (x ≡ none))
+      told : {x : ℕ} → Mark g (length g.places) u a v x → (Linked g u a v × (x ≡ 1)) ⊎ ((Linked g u a v → ⊥) × (x ≡ none))
       told (inl h) = inl ((h.0.0, h.0.2), h.1)
       told (inr h) = inr (λ l. h.0 (held l), h.1)
 
-  pub either_shown : (e f : Expr) (t t' : List ℕ) (left right out : ℕ) → Wrote out (n * n) (λ i. min (get_or t (left + i) 0) (get_or t (right + i) 0)) t t' → Shows g n e t left → Shows g n f t right → Shows g n (either e f) t' out
-  either_shown e f t t' left right out w a b =
-      shown_as g n (either e f) t' out (λ u v. min (cell t left n u v) (cell t right n u v))
-      (at_entries (λ k. Cells k (Lengths g e) (cell t left n) → Cells k (Lengths g f) (cell t right n) → Cells k (Lengths g (either e f)) (λ u v. min (cell t left n u v) (cell t right n u v))) (either_cells g e f (cell t left n) (cell t right n)) a b)
-      (λ u v p q. w.cells (u * n + v) (mul-add-lt u n v n p q))
+  pub either_shown : (e f : Expr) (left right block : List ℕ) → Holds n block (λ u v. min (block_cell n left u v) (block_cell n right u v)) → Cells n (Lengths g e) (block_cell n left) → Cells n (Lengths g f) (block_cell n right) → Cells n (Lengths g (either e f)) (block_cell n block)
+  either_shown e f left right block h a b =
+      let c = block_cell n left in
+      let d = block_cell n right in
+      shown_as g n (either e f) block (λ u v. min (c u v) (d u v))
+      (at_entries (λ k. Cells k (Lengths g e) c → Cells k (Lengths g f) d → Cells k (Lengths g (either e f)) (λ u v. min (c u v) (d u v))) (either_cells g e f c d) a b)
+      h
 
-  pub join_shown : (e f : Expr) (t t' : List ℕ) (left right out : ℕ) → Rows out n n (joined_to t left right n n) t t' → Shows g n e t left → Shows g n f t right → Shows g n (join e f) t' out
-  join_shown e f t t' left right out r a b =
-      shown_as g n (join e f) t' out (joined_to t left right n n)
-      (at_entries (λ k. Cells k (Lengths g e) (cell t left n) → Cells k (Lengths g f) (cell t right n) → Cells k (Lengths g (join e f)) (λ u v. least_below k (λ j. sat_add (cell t left n u j) (cell t right n j v))))
-      (λ a b u v p q. join_cell g e f u v (cell t left n u) (λ m. cell t right n m v) (λ m h. a u m p h) (λ m h. b m v h q)) a b)
-      r.cells
+  pub join_shown : (e f : Expr) (left right block : List ℕ) → Holds n block (λ u v. least_below n (λ m. sat_add (block_cell n left u m) (block_cell n right m v))) → Cells n (Lengths g e) (block_cell n left) → Cells n (Lengths g f) (block_cell n right) → Cells n (Lengths g (join e f)) (block_cell n block)
+  join_shown e f left right block h a b =
+      let c = block_cell n left in
+      let d = block_cell n right in
+      shown_as g n (join e f) block (λ u v. least_below n (λ m. sat_add (c u m) (d m v)))
+      (at_entries (λ k. Cells k (Lengths g e) c → Cells k (Lengths g f) d → Cells k (Lengths g (join e f)) (λ u v. least_below k (λ m. sat_add (c u m) (d m v))))
+      (λ a b u v p q. join_cell g e f u v (c u) (λ m. d m v) (λ m h. a u m p h) (λ m h. b m v h q)) a b)
+      h
 
-  pub plus_shown : (e : Expr) (t t₁ t₂ : List ℕ) (from out : ℕ) → Wrote out (n * n) (λ i. get_or t (from + i) 0) t t₁ → Rows out n n (closed n (cell t₁ out n)) t₁ t₂ → Shows g n e t from → Shows g n (plus e) t₂ out
-  plus_shown e t t₁ t₂ from out w r a =
-      shown_as g n (plus e) t₂ out (closed n (cell t₁ out n))
-      (at_entries (λ k. Cells k (Lengths g e) (cell t₁ out n) → Cells k (Lengths g (plus e)) (closed k (cell t₁ out n))) (plus_cells g e (cell t₁ out n))
-      (copied_shown g n e t t₁ from out w a))
-      r.cells
+  pub plus_shown : (e : Expr) (first block : List ℕ) → Holds n block (closed n (block_cell n first)) → Cells n (Lengths g e) (block_cell n first) → Cells n (Lengths g (plus e)) (block_cell n block)
+  plus_shown e first block h a =
+      let d = block_cell n first in
+      shown_as g n (plus e) block (closed n d) (at_entries (λ k. Cells k (Lengths g e) d → Cells k (Lengths g (plus e)) (closed k d)) (plus_cells g e d) a) h
 
   -- what a repeat is first set to under `*`
-  pub first_shown : (e : Expr) (t t₁ t₂ : List ℕ) (from out : ℕ) → Wrote out (n * n) (λ i. get_or t (from + i) 0) t t₁ → Rows out n n (λ u v. cond (eqb u v) 0 (cell t₁ out n u v)) t₁ t₂ → Shows g n e t from → Shows g n (either epsilon e) t₂ out
-  first_shown e t t₁ t₂ from out w r a =
-      shown_as g n (either epsilon e) t₂ out (λ u v. min (cond (eqb u v) 0 none) (cell t from n u v))
-      (at_entries (λ k. Cells k (Lengths g e) (cell t from n) → Cells k (Lengths g (either epsilon e)) (λ u v. min (cond (eqb u v) 0 none) (cell t from n u v))) (either_cells g epsilon e (λ u v. cond (eqb u v) 0 none) (cell t from n) (epsilon_cells g)) a)
-      (λ u v p q.
-      let c = w.cells (u * n + v) (mul-add-lt u n v n p q) in
-      let s = (a u v p q).small in
-      r.cells u v p q ∙ ap (λ x. cond (eqb u v) 0 x) c ∙ least (eqb u v) (cell t from n u v) s)
+  pub first_shown : (e : Expr) (before first : List ℕ) → Holds n first (λ u v. cond (eqb u v) 0 (block_cell n before u v)) → Cells n (Lengths g e) (block_cell n before) → Cells n (Lengths g (either epsilon e)) (block_cell n first)
+  first_shown e before first h a =
+      let c : ℕ → ℕ → ℕ = λ u v. cond (eqb u v) 0 none in
+      let d = block_cell n before in
+      shown_as g n (either epsilon e) first (λ u v. min (c u v) (d u v))
+      (at_entries (λ k. Cells k (Lengths g e) d → Cells k (Lengths g (either epsilon e)) (λ u v. min (c u v) (d u v))) (either_cells g epsilon e c d (epsilon_cells g)) a)
+      (λ u v p q. h u v p q ∙ least (eqb u v) (d u v) (a u v p q).small)
     where
       least : (b : Bool) (x : ℕ) → x ≤ none → cond b 0 x ≡ min (cond b 0 none) x
       least true x h = omega arith
       least false x h = omega arith
 
-  pub star_shown : (e : Expr) (t t₁ t₂ t₃ : List ℕ) (from out : ℕ) → Wrote out (n * n) (λ i. get_or t (from + i) 0) t t₁ → Rows out n n (λ u v. cond (eqb u v) 0 (cell t₁ out n u v)) t₁ t₂ → Rows out n n (closed n (cell t₂ out n)) t₂ t₃ → Shows g n e t from → Shows g n (star e) t₃ out
-  star_shown e t t₁ t₂ t₃ from out w d r a =
-      shown_as g n (star e) t₃ out (closed n (cell t₂ out n))
-      (at_entries (λ k. Cells k (Lengths g (either epsilon e)) (cell t₂ out n) → Cells k (Lengths g (star e)) (closed k (cell t₂ out n))) (star_cells g e (cell t₂ out n)) (first_shown e t t₁ t₂ from out w d a))
-      r.cells
+  pub star_shown : (e : Expr) (first block : List ℕ) → Holds n block (closed n (block_cell n first)) → Cells n (Lengths g (either epsilon e)) (block_cell n first) → Cells n (Lengths g (star e)) (block_cell n block)
+  star_shown e first block h a =
+      let d = block_cell n first in
+      shown_as g n (star e) block (closed n d) (at_entries (λ k. Cells k (Lengths g (either epsilon e)) d → Cells k (Lengths g (star e)) (closed k d)) (star_cells g e d) a) h
 
-  pub same_shown : (e : Expr) (t t' : List ℕ) (from out : ℕ) → Rows out n n (λ u v. kept_if true (g.same u v) (cell t from n u v)) t t' → Shows g n e t from → Shows g n (same e) t' out
-  same_shown e t t' from out r a =
-      shown_as g n (same e) t' out (λ u v. cond (g.same u v) (cell t from n u v) none)
-      (at_entries (λ k. Cells k (Lengths g e) (cell t from n) → Cells k (Lengths g (same e)) (λ u v. cond (g.same u v) (cell t from n u v) none)) (same_cells g e (cell t from n)) a)
-      r.cells
+  -- a block of which the cells that pass a test are kept
+  kept_as : (test : ℕ → ℕ → Bool → Type 0) (right : ℕ → ℕ → Bool) (before block : List ℕ) → ((u v : ℕ) (b : Bool) → test u v b → b ≡ right u v) → KeptWhere n test before block → Holds n block (λ u v. cond (right u v) (block_cell n before u v) none)
+  kept_as test right before block told h u v p q = elim (h.cells u v p q) [
+    | inl w ↦ w.1 ∙ rw (← told u v true w.0)
+    | inr w ↦ w.1 ∙ rw (← told u v false w.0)
+  ]
 
-  pub differ_shown : (e : Expr) (t t' : List ℕ) (from out : ℕ) → Rows out n n (λ u v. kept_if false (g.same u v) (cell t from n u v)) t t' → Shows g n e t from → Shows g n (differ e) t' out
-  differ_shown e t t' from out r a =
-      shown_as g n (differ e) t' out (λ u v. cond (g.same u v) none (cell t from n u v))
-      (at_entries (λ k. Cells k (Lengths g e) (cell t from n) → Cells k (Lengths g (differ e)) (λ u v. cond (g.same u v) none (cell t from n u v))) (differ_cells g e (cell t from n)) a)
-      r.cells
+  pub same_shown : (e : Expr) (test : ℕ → ℕ → Bool → Type 0) (before block : List ℕ) → KeptWhere n test before block → ((u v : ℕ) (b : Bool) → test u v b → b ≡ g.same u v) → Cells n (Lengths g e) (block_cell n before) → Cells n (Lengths g (same e)) (block_cell n block)
+  same_shown e test before block h told a =
+      let d = block_cell n before in
+      shown_as g n (same e) block (λ u v. cond (g.same u v) (d u v) none) (at_entries (λ k. Cells k (Lengths g e) d → Cells k (Lengths g (same e)) (λ u v. cond (g.same u v) (d u v) none)) (same_cells g e d) a) (kept_as test g.same before block told h)
 
-  -- the block of an earlier part
-  pub earlier : (parts : List Part) (q k : ℕ) (t : List ℕ) → AllShow g parts q t → k < q → Shows g n (part_expr parts k) t (k * (n * n))
-  earlier parts q k t s h = at_entries (λ m. Shows g m (part_expr parts k) t (k * (m * m))) (s k h)
+  pub differ_shown : (e : Expr) (test : ℕ → ℕ → Bool → Type 0) (before block : List ℕ) → KeptWhere n test before block → ((u v : ℕ) (b : Bool) → test u v b → b ≡ not (g.same u v)) → Cells n (Lengths g e) (block_cell n before) → Cells n (Lengths g (differ e)) (block_cell n block)
+  differ_shown e test before block h told a =
+      let d = block_cell n before in
+      shown_as g n (differ e) block (λ u v. cond (g.same u v) none (d u v)) (at_entries (λ k. Cells k (Lengths g e) d → Cells k (Lengths g (differ e)) (λ u v. cond (g.same u v) none (d u v))) (differ_cells g e d) a)
+      (λ u v p q. kept_as test (λ u v. not (g.same u v)) before block told h u v p q ∙ turned (g.same u v) (d u v))
+    where
+      turned : (b : Bool) (x : ℕ) → cond (not b) x none ≡ cond b none x
+      turned true x = refl
+      turned false x = refl
 
--- the block of part q was filled, among as many entries as the graph has
-part_filled_own : (g : Graph) (parts : List Part) (q : ℕ) (e : Expr) (t t' : List ℕ) → part_expr parts q ≡ e → length t' ≡ length t → AllShow g parts q t → ((i : ℕ) → i < block_at g.entries q → get_or t' i 0 ≡ get_or t i 0) → ((i : ℕ) → block_at g.entries q + g.entries * g.entries ≤ i → get_or t' i 0 ≡ get_or t i 0) → Shows g g.entries e t' (block_at g.entries q) → Filled g parts (q + 1) t t'
-part_filled_own g parts q e t t' is kept s before behind shown = record {
-  kept = kept;
-  cells = λ k h. by_part k (cases_lt k q) h;
-  behind = λ i h. behind i (omega (arith, block_next q (g.entries * g.entries)));
-}
-  where
-    by_part : (k : ℕ) → (k < q) ⊎ (q ≤ k) → k < q + 1 → Shows g g.entries (part_expr parts k) t' (block_at g.entries k)
-    by_part k (inl lt) h = λ u v p r.
-        let b = block_before q k (g.entries * g.entries) lt in
-        let c = mul-add-lt u g.entries v g.entries p r in
-        subst (Cell (Lengths g (part_expr parts k) u v)) (sym (before (block_at g.entries k + (u * g.entries + v)) (omega arith))) (s k lt u v p r)
-    by_part k (inr ge) h = let j : q ≡ k = omega arith in subst (λ x. Shows g g.entries (part_expr parts x) t' (block_at g.entries x)) j (subst (λ x. Shows g g.entries x t' (block_at g.entries q)) (sym is) shown)
+  -- the block of the part just before
+  pub before_shown : (parts : List Part) (q a : ℕ) (done : List ℕ) → AllShow g parts q done → length done ≡ q * (n * n) → 0 < q → a ≡ length done - n * n → Cells n (Lengths g (part_expr parts (q - 1))) (block_cell n (take (length done - a) (drop a done)))
+  before_shown parts q a done s len lt is =
+      let r = row_end 0 (n * n) q lt in
+      let b = block_next (q - 1) (n * n) in
+      let c : (q - 1 + 1) * (n * n) ≡ q * (n * n) = ap (λ k. k * (n * n)) (omega arith) in
+      half_shown parts q (q - 1) a (length done - a) done s (omega arith) (omega arith) (omega arith)
 
-pub part_filled : (g : Graph) (n : ℕ) → g.entries ≡ n → (parts : List Part) (q : ℕ) (e : Expr) (t t' : List ℕ) → part_expr parts q ≡ e → length t' ≡ length t → AllShow g parts q t → ((i : ℕ) → i < q * (n * n) → get_or t' i 0 ≡ get_or t i 0) → ((i : ℕ) → q * (n * n) + n * n ≤ i → get_or t' i 0 ≡ get_or t i 0) → Shows g n e t' (q * (n * n)) → Filled g parts (q + 1) t t'
-part_filled g n eq parts q e t t' is kept s =
-    subst (λ m. ((i : ℕ) → i < q * (m * m) → get_or t' i 0 ≡ get_or t i 0) → ((i : ℕ) → q * (m * m) + m * m ≤ i → get_or t' i 0 ≡ get_or t i 0) → Shows g m e t' (q * (m * m)) → Filled g parts (q + 1) t t') eq (part_filled_own g parts q e t t' is kept s)
-
--- the expression of a part, by what the part is
-pub part_is : (parts : List Part) (q : ℕ) (x : Part) → well_formed 0 parts ≡ true → q < length parts → get_or parts q Epsilon ≡ x → part_expr parts q ≡ made (part_expr parts) q x
-part_is parts q x f h e = part_made parts q h f ∙ ap (made (part_expr parts) q) e
-
--- the block of the part just before
-pub just_before : (g : Graph) (n : ℕ) → g.entries ≡ n → (parts : List Part) (q : ℕ) (t : List ℕ) → 0 < q → AllShow g parts q t → Shows g n (part_expr parts (q - 1)) t (q * (n * n) - n * n)
-just_before g n eq parts q t h s = subst (Shows g n (part_expr parts (q - 1)) t) (sym (block_last q (n * n) h)) (earlier g n eq parts q (q - 1) t s (omega arith))
-
--- where the blocks of a part's halves lie: two halves, and one
-pub two_before : (q l m : ℕ) → ltb (l + 1) q ≡ true → (l < q) × (0 < q) × (l * m + m ≤ q * m) × (m ≤ q * m)
-two_before q l m s =
-    let h = ltb-true (l + 1) q s in
-    (omega arith, omega arith, block_before q l m (omega arith), omega (arith, block_before q 0 m (omega arith)))
-
-pub one_before : (q m : ℕ) → ltb 0 q ≡ true → (0 < q) × (m ≤ q * m)
-one_before q m s = let h = ltb-true 0 q s in (h, omega (arith, block_before q 0 m h))
-
--- the block of part q was written as the part wants it
-pub part_rows : (g : Graph) (n : ℕ) → g.entries ≡ n → (parts : List Part) (q : ℕ) (x : Part) (F : ℕ → ℕ → ℕ) (t t' : List ℕ) → well_formed 0 parts ≡ true → q < length parts → get_or parts q Epsilon ≡ x → AllShow g parts q t → Rows (q * (n * n)) n n F t t' → Shows g n (made (part_expr parts) q x) t' (q * (n * n)) → Filled g parts (q + 1) t t'
-part_rows g n eq parts q x F t t' f h is s r shown = part_filled g n eq parts q (made (part_expr parts) q x) t t' (part_is parts q x f h is) r.kept s r.before r.behind shown
-
--- parts that are filled one after the other
-pub filled_none : (g : Graph) (parts : List Part) (t : List ℕ) → Filled g parts 0 t t
-filled_none g parts t = record { kept = refl; cells = λ q h. absurd (omega arith); behind = λ i h. refl }
-
-pub filled_more : (g : Graph) (parts : List Part) (q : ℕ) (t t₁ t₂ : List ℕ) → Filled g parts q t t₁ → Filled g parts (q + 1) t₁ t₂ → Filled g parts (q + 1) t t₂
-filled_more g parts q t t₁ t₂ a b = record {
-  kept = b.kept ∙ a.kept;
-  cells = b.cells;
-  behind = λ i h. b.behind i h ∙ a.behind i (omega (arith, block_next q (g.entries * g.entries)));
-}
+-- the block of a part, by what the part is
+pub part_shown : (g : Graph) (n : ℕ) (parts : List Part) (q : ℕ) (x : Part) (block : List ℕ) → well_formed 0 parts ≡ true → q < length parts → get_or parts q Epsilon ≡ x → Cells n (Lengths g (made (part_expr parts) q x)) (block_cell n block) → Cells n (Lengths g (part_expr parts q)) (block_cell n block)
+part_shown g n parts q x block f h is s = subst (λ e. Cells n (Lengths g e) (block_cell n block)) (sym (part_made parts q h f ∙ ap (made (part_expr parts) q) is)) s

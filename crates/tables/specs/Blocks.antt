@@ -1,30 +1,37 @@
--- Blocks of cells in a table, and what writing to one leaves; of these, only `cell` stands in promises. Assumes nothing.
-use Rattle.std.specs.Prelude.{◌≡◌, ℕ, ◌+◌, ◌*◌, ◌<◌, ◌≤◌, Bool, true, false, cond, List, length, slice_index}
+-- Blocks: a row of n cells for each of n entries. Of these only `cell` stands in promises. Assumes nothing.
+use Rattle.std.specs.Prelude.{◌≡◌, ℕ, ◌+◌, ◌*◌, ◌<◌, ◌≤◌, Bool, true, false, ◌⊎◌, List, slice_index}
 use Rattle.languages.specs.Cells.{none}
+use Rattle.tables.specs.declared.block.Block.{Block}
 
--- the cell of u and v in the block of n rows of n cells that begins at an offset
+-- the cell of u and v in the block of n rows of n cells that begins at an offset of a table
 abbrev pub cell : List ℕ → ℕ → ℕ → ℕ → ℕ → ℕ
 cell table base n u v = slice_index table (base + (u * n + v))
 
--- so many cells were written from an offset on, and no others
-pub record Wrote (at size : ℕ) (F : ℕ → ℕ) (t t' : List ℕ) : Type 0 where
-  pub kept : length t' ≡ length t
-  pub before : (i : ℕ) → i < at → slice_index t' i ≡ slice_index t i
-  pub cells : (i : ℕ) → i < size → slice_index t' (at + i) ≡ F i
-  pub behind : (i : ℕ) → at + size ≤ i → slice_index t' i ≡ slice_index t i
+-- the cell of u and v in n rows of n cells
+abbrev pub block_cell : ℕ → List ℕ → ℕ → ℕ → ℕ
+block_cell n cells u v = slice_index cells (u * n + v)
 
--- so many rows of a block were written, and no other cells
-pub record Rows (out n rows : ℕ) (F : ℕ → ℕ → ℕ) (t t' : List ℕ) : Type 0 where
-  pub kept : length t' ≡ length t
-  pub before : (i : ℕ) → i < out → slice_index t' i ≡ slice_index t i
-  pub cells : (u v : ℕ) → u < rows → v < n → cell t' out n u v ≡ F u v
-  pub behind : (i : ℕ) → out + rows * n ≤ i → slice_index t' i ≡ slice_index t i
+-- n rows of n cells are these
+abbrev pub Holds : ℕ → List ℕ → (ℕ → ℕ → ℕ) → Type 0
+Holds n cells F = (u v : ℕ) → u < n → v < n → block_cell n cells u v ≡ F u v
+
+-- the cell of u and v in a block
+abbrev pub cell_in : Block → ℕ → ℕ → ℕ
+cell_in block u v = block_cell block.n block.cells.now u v
+
+-- a block lies where it did, for as many entries
+pub record SamePlace (block block' : Block) : Type 0 where
+  pub reference : block'.cells.ghost_name ≡ block.cells.ghost_name
+  pub entries : block'.n ≡ block.n
 
 -- no cell of a block is above the one that tells of no path
-abbrev pub Small : List ℕ → ℕ → ℕ → Type 0
-Small t out n = (u v : ℕ) → u < n → v < n → cell t out n u v ≤ none
+abbrev pub Small : Block → Type 0
+Small block = (u v : ℕ) → u < block.n → v < block.n → cell_in block u v ≤ none
 
--- a cell that is kept where a test comes out as wanted
-abbrev pub kept_if : Bool → Bool → ℕ → ℕ
-kept_if true test c = cond test c none
-kept_if false test c = cond test none c
+-- a cell is kept where a test may answer yes, and tells of no path where it may answer no
+abbrev pub KeptIf : (Bool → Type 0) → ℕ → ℕ → Type 0
+KeptIf answers c c' = (answers true × (c' ≡ c)) ⊎ (answers false × (c' ≡ none))
+
+-- n rows of n cells are kept where a test may answer yes, and tell of no path where it may answer no
+pub record KeptWhere (n : ℕ) (answers : ℕ → ℕ → Bool → Type 0) (before after : List ℕ) : Type 0 where
+  pub cells : (u v : ℕ) → u < n → v < n → KeptIf (answers u v) (block_cell n before u v) (block_cell n after u v)

@@ -1,9 +1,9 @@
 -- What a block tells of the links of one letter; no public contract cites this file. Assumes nothing.
-use Rattle.std.specs.Prelude.{◌≡◌, ℕ, ◌+◌, ◌*◌, ◌<◌, ◌≤◌, ◌⊎◌, List, length, Some, slice_index}
+use Rattle.std.specs.Prelude.{◌≡◌, ℕ, ◌<◌, ◌⊎◌, List, Some}
 use Rattle.graphs.specs.Graphs.{Graph, link_at}
 use Rattle.graphs.specs.declared.link.Link.{Link}
 use Rattle.languages.specs.Cells.{none}
-use Rattle.tables.specs.Blocks.{cell}
+use Rattle.tables.specs.Blocks.{block_cell}
 
 abbrev pub link : ℕ → ℕ → ℕ → Link
 link u a v = record { from = u; letter = a; to = v }
@@ -16,9 +16,6 @@ LinkedBy g p u a v = (k : ℕ) × (k < p) × (link_at g k ≡ Some (link u a v))
 abbrev pub Mark : Graph → ℕ → ℕ → ℕ → ℕ → ℕ → Type 0
 Mark g p u a v x = (LinkedBy g p u a v × (x ≡ 1)) ⊎ ((LinkedBy g p u a v → ⊥) × (x ≡ none))
 
--- the first p places are marked in a block, and nothing else has changed
-pub record Marked (g : Graph) (p a out n : ℕ) (t t' : List ℕ) : Type 0 where
-  pub kept : length t' ≡ length t
-  pub before : (i : ℕ) → i < out → slice_index t' i ≡ slice_index t i
-  pub marks : (u v : ℕ) → u < n → v < n → Mark g p u a v (cell t' out n u v)
-  pub behind : (i : ℕ) → out + n * n ≤ i → slice_index t' i ≡ slice_index t i
+-- the first p places are marked in n rows of n cells
+abbrev pub Marked : Graph → ℕ → ℕ → ℕ → List ℕ → Type 0
+Marked g p a n cells = (u v : ℕ) → u < n → v < n → Mark g p u a v (block_cell n cells u v)

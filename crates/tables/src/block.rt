@@ -1,46 +1,62 @@
-// Cells set one after the other, from an offset of the table on.
-ghost use Rattle.std.specs.Prelude.{◌≡◌, ℕ, ◌+◌, ◌*◌, ◌≤◌, min, length, if◌then◌else◌, nat_eq, slice_index};
+// Blocks: the cells of one part.
+ghost use Rattle.std.specs.Prelude.{◌≡◌, ℕ, ◌*◌, ◌≤◌, min, length, if◌then◌else◌, nat_eq};
 ghost use Rattle.languages.specs.Cells.{none};
-ghost use Rattle.tables.specs.Blocks.{cell, Wrote, Rows};
 
 use crate::cell::NONE;
 
-// So many cells that tell of no path.
-pub(crate) fn fill_none(table: &mut [u32], out: usize, size: usize)
-    requires { out + size ≤ length table.old }
-    ensures { Wrote out size (λ _. none) table.old table.new }
-{
-    for i in 0..size {
-        table[out + i] = NONE;
-    }
+// The cells of one part: a row of n for each of n entries.
+#[derive(Drop)]
+pub(crate) struct Block<'a> {
+    pub(crate) cells: &'a mut [u32],
+    pub(crate) n: usize,
+    ghost few: { n ≤ 128 },
+    ghost square: { length cells.now ≡ n * n },
 }
 
-// So many cells as they are from another offset on.
-pub(crate) fn copy(table: &mut [u32], from: usize, out: usize, size: usize)
-    requires { (from + size ≤ out) × (out + size ≤ length table.old) }
-    ensures { Wrote out size (λ i. slice_index table.old (from + i)) table.old table.new }
-{
-    for i in 0..size {
-        table[out + i] = table[from + i];
-    }
-}
+// The methods that pass on a part of the cells name the slice first: of a slice in a field that is passed on, a proof knows only its length.
+impl Block<'_> {
+    ghost use Rattle.tables.specs.Blocks.{block_cell, cell_in, Holds, SamePlace};
 
-// The lesser of the cells from two other offsets on.
-pub(crate) fn lesser(table: &mut [u32], left: usize, right: usize, out: usize, size: usize)
-    requires { (left + size ≤ out) × ((right + size ≤ out) × (out + size ≤ length table.old)) }
-    ensures { Wrote out size (λ i. min (slice_index table.old (left + i)) (slice_index table.old (right + i))) table.old table.new }
-{
-    for i in 0..size {
-        table[out + i] = table[left + i].min(table[right + i]);
+    // No path anywhere.
+    pub(crate) fn clear(&mut self)
+        ensures place { SamePlace self.old self.new }
+        ensures cells { Holds self.old.n self.new.cells.now (λ u v. none) }
+    {
+        self.cells.fill(NONE);
     }
-}
 
-// No step from each entry to itself.
-pub(crate) fn zero_diagonal(table: &mut [u32], out: usize, n: usize)
-    requires { (n ≤ 128) × (out + n * n ≤ length table.old) }
-    ensures { Rows out n n (λ u v. (if nat_eq u v then 0 else cell table.old out n u v)) table.old table.new }
-{
-    for u in 0..n {
-        table[out + (u * n + u)] = 0;
+    // The cells of another block.
+    pub(crate) fn copy_from(&mut self, before: &[u32])
+        requires { length before.now ≡ self.old.n * self.old.n }
+        ensures place { SamePlace self.old self.new }
+        ensures cells { self.new.cells.now ≡ before.now }
+    {
+        self.cells.copy_from_slice(before);
+    }
+
+    // The lesser of the cells of two other blocks.
+    pub(crate) fn lesser(&mut self, left: &[u32], right: &[u32])
+        requires left { length left.now ≡ self.old.n * self.old.n }
+        requires right { length right.now ≡ self.old.n * self.old.n }
+        ensures place { SamePlace self.old self.new }
+        ensures cells { Holds self.old.n self.new.cells.now (λ u v. min (block_cell self.old.n left.now u v) (block_cell self.old.n right.now u v)) }
+    {
+        let cells = &mut *self.cells;
+        for (i, cell) in cells.iter_mut().enumerate() {
+            *cell = left[i].min(right[i]);
+        }
+    }
+
+    // No step from each entry to itself.
+    pub(crate) fn zero_diagonal(&mut self)
+        ensures place { SamePlace self.old self.new }
+        ensures cells { Holds self.old.n self.new.cells.now (λ u v. (if nat_eq u v then 0 else cell_in self.old u v)) }
+    {
+        let n = self.n;
+        let cells = &mut *self.cells;
+        // By index: of `step_by` over `iter_mut` a proof knows no element.
+        for u in 0..n {
+            cells[u * n + u] = 0;
+        }
     }
 }

@@ -1,4 +1,4 @@
-// What a cell of a table tells.
+// What a cell of a table tells; a number, since the table is the caller's.
 
 // Stands for every count of steps from 1,000 on.
 pub const LONG: u32 = 1000;
@@ -6,5 +6,5 @@ pub const LONG: u32 = 1000;
 // Stands for no path.
 pub const NONE: u32 = 1001;
 
-// A source may have at most so many entries.
+// A source may have at most so many entries: a rule apart from that of a file, whose crate is not seen from here.
 pub const MOST_ENTRIES: usize = 128;

@@ -1,61 +1,76 @@
 // The evaluation of an expression, part by part.
-ghost use Rattle.std.specs.Prelude.{◌≡◌, ℕ, ◌+◌, ◌*◌, ◌<◌, ◌≤◌, true, length};
-ghost use Rattle.expressions.specs.Numbering.{well_formed};
+ghost use Rattle.std.specs.Prelude.{◌≡◌, ℕ, ◌+◌, ◌*◌, ◌<◌, ◌≤◌, true, length, take, drop};
+ghost use Rattle.expressions.specs.Numbering.{part_expr, well_formed};
+ghost use Rattle.languages.specs.Algebra.{Cells};
+ghost use Rattle.languages.specs.Cells.{Lengths};
+ghost use Rattle.tables.specs.Blocks.{block_cell, SamePlace};
 ghost use Rattle.tables.specs.Tables.{block_at, AllShow, Filled};
 
-use crate::block::{copy, fill_none, lesser, zero_diagonal};
-use crate::close::close;
-use crate::join::join;
-use crate::letter::fill_letter;
-use crate::tested::test;
+use crate::block::Block;
 use expressions::part::Part;
 use graphs::source::Source;
 
-// Fills the block of part q from those of the parts before it.
-fn evaluate_part<S: Source>(source: &S, parts: &[Part], q: usize, table: &mut [u32], n: usize)
-    requires entries { n ≡ (S.Source.graph source.now).entries }
-    requires few { (n ≤ 128) × ((q < length parts.now) × (length parts.now ≤ 32)) }
-    requires formed { well_formed 0 parts.now ≡ true }
-    requires room { block_at n (q + 1) ≤ length table.old }
-    requires shown { AllShow (S.Source.graph source.now) parts.now q table.old }
-    ensures { Filled (S.Source.graph source.now) parts.now (q + 1) table.old table.new }
+// The block of part k among those that are filled.
+fn block_of(done: &[u32], k: usize, size: usize) -> &[u32]
+    requires { k * size + size ≤ length done.now }
+    ensures cells { result.now ≡ take size (drop (k * size) done.now) }
+    ensures size { length result.now ≡ size }
 {
-    let size = n * n;
-    let out = q * size;
-    // The block of the part just before, where there is one.
-    let before = out.saturating_sub(size);
-    let part = parts[q];
-    match part {
-        Part::Epsilon => {
-            fill_none(table, out, size);
-            zero_diagonal(table, out, n);
+    &done[k * size..][..size]
+}
+
+impl Block<'_> {
+    // Fills the block of part q from those of the parts before it.
+    fn fill<S: Source>(&mut self, source: &S, parts: &[Part], q: usize, done: &[u32])
+        requires entries { self.old.n ≡ (S.Source.graph source.now).entries }
+        requires is_part { q < length parts.now }
+        requires formed { well_formed 0 parts.now ≡ true }
+        requires done { length done.now ≡ block_at self.old.n q }
+        requires shown { AllShow (S.Source.graph source.now) parts.now q done.now }
+        ensures place { SamePlace self.old self.new }
+        ensures cells { Cells self.old.n (Lengths (S.Source.graph source.now) (part_expr parts.now q)) (block_cell self.old.n self.new.cells.now) }
+    {
+        let size = self.n * self.n;
+        // The block of the part just before, where there is one.
+        let before = &done[done.len().saturating_sub(size)..];
+        match parts[q] {
+            Part::Epsilon => {
+                self.clear();
+                self.zero_diagonal();
+            }
+            Part::Letter(letter) => self.mark(source, letter),
+            Part::Either { left } => self.lesser(block_of(done, left, size), before),
+            Part::Join { left } => self.join(block_of(done, left, size), before),
+            Part::Plus => {
+                self.copy_from(before);
+                self.close();
+            }
+            Part::Star => {
+                self.copy_from(before);
+                self.zero_diagonal();
+                self.close();
+            }
+            Part::Same => self.keep_where(before, |u, v| source.same(u, v)),
+            Part::Differ => self.keep_where(before, |u, v| !source.same(u, v)),
         }
-        Part::Letter(letter) => fill_letter(source, letter, table, out, n),
-        Part::Either { left } => lesser(table, left * size, before, out, size),
-        Part::Join { left } => join(table, left * size, before, out, n),
-        Part::Plus => {
-            copy(table, before, out, size);
-            close(table, out, n);
-        }
-        Part::Star => {
-            copy(table, before, out, size);
-            zero_diagonal(table, out, n);
-            close(table, out, n);
-        }
-        Part::Same => test(source, true, table, before, out, n),
-        Part::Differ => test(source, false, table, before, out, n),
     }
 }
 
 // Fills the block of every part.
 pub fn evaluate<S: Source>(source: &S, parts: &[Part], table: &mut [u32], n: usize)
     requires entries { n ≡ (S.Source.graph source.now).entries }
-    requires few { (n ≤ 128) × (length parts.now ≤ 32) }
+    requires few { n ≤ 128 }
+    requires short { length parts.now ≤ 32 }
     requires formed { well_formed 0 parts.now ≡ true }
     requires room { block_at n (length parts.now) ≤ length table.old }
     ensures { Filled (S.Source.graph source.now) parts.now (length parts.now) table.old table.new }
 {
+    let size = n * n;
+    // The number of a part tells where the table is split.
     for q in 0..parts.len() {
-        evaluate_part(source, parts, q, table, n);
+        let (done, rest) = table.split_at_mut(q * size);
+        let cells = &mut rest[..size];
+        let mut block = Block { cells, n };
+        block.fill(source, parts, q, done);
     }
 }

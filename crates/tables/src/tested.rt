@@ -1,44 +1,26 @@
-// The blocks of tests: cells kept where the ends hold the same value, or where they do not.
-ghost use Rattle.std.specs.Prelude.{◌≡◌, ℕ, ◌+◌, ◌*◌, ◌≤◌, Bool, cond, length, slice_index};
-ghost use Rattle.tables.specs.Blocks.{cell, kept_if, Wrote, Rows};
+// The blocks of tests.
+ghost use Rattle.std.specs.Prelude.{◌≡◌, ℕ, ◌*◌, length};
+ghost use Rattle.tables.specs.Blocks.{KeptWhere, SamePlace};
 
+use crate::block::Block;
 use crate::cell::NONE;
-use graphs::source::Source;
 
-// One row: the cells of `from` where the sameness of the entry u and the second entry is as wanted.
-fn test_row<S: Source>(
-    source: &S,
-    wanted: bool,
-    u: usize,
-    table: &mut [u32],
-    from: usize,
-    start: usize,
-    n: usize,
-)
-    requires { (from + n ≤ start) × (start + n ≤ length table.old) }
-    ensures { Wrote start n (λ v. kept_if wanted ((S.Source.graph source.now).same u v) (slice_index table.old (from + v))) table.old table.new }
-{
-    for v in 0..n {
-        table[start + v] = if source.same(u, v) == wanted {
-            table[from + v]
-        } else {
-            NONE
-        };
-    }
-}
-
-pub(crate) fn test<S: Source>(
-    source: &S,
-    wanted: bool,
-    table: &mut [u32],
-    from: usize,
-    out: usize,
-    n: usize,
-)
-    requires { (n ≤ 128) × ((from + n * n ≤ out) × (out + n * n ≤ length table.old)) }
-    ensures { Rows out n n (λ u v. kept_if wanted ((S.Source.graph source.now).same u v) (cell table.old from n u v)) table.old table.new }
-{
-    for u in 0..n {
-        test_row(source, wanted, u, table, from + u * n, out + u * n, n);
+impl Block<'_> {
+    // The cells of another block are kept where the two entries pass, and tell of no path elsewhere.
+    pub(crate) fn keep_where<F: Fn(usize, usize) -> bool>(&mut self, before: &[u32], passes: F)
+        requires before { length before.now ≡ self.old.n * self.old.n }
+        requires callable { F.IsAlwaysCallable passes }
+        ensures place { SamePlace self.old self.new }
+        ensures cells { KeptWhere self.old.n (F.post passes) before.now self.new.cells.now }
+    {
+        let n = self.n;
+        let cells = &mut *self.cells;
+        // By both entries: over the cells alone each would be divided for.
+        for u in 0..n {
+            for v in 0..n {
+                let at = u * n + v;
+                cells[at] = if passes(u, v) { before[at] } else { NONE };
+            }
+        }
     }
 }

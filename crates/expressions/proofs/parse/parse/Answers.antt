@@ -1,28 +1,21 @@
-use Rattle.std.proofs.Common.{arith}
-use Rattle.expressions.specs.Wordings.{too_long, no_expression}
-use Rattle.expressions.proofs.Judged.{decided_by, accepted, too_many}
-use Rattle.expressions.proofs.Whole.{whole, cut_short, lost}
+use Rattle.std.proofs.Common.{ℕ, List, Result, arith}
+use Rattle.std.proofs.lemmas.Result.{err_from_is_err_and}
+use Rattle.refusals.specs.declared.Refusal.{Refusal}
+use Rattle.expressions.specs.declared.part.Parts.{Parts}
+use Rattle.expressions.specs.Wordings.{Parsed, Decided, too_long, no_expression}
+use Rattle.expressions.proofs.Judged.{decided_by, read_is}
 use Rattle.expressions.proofs.parse.parse.Goals as goal
 
+both : (t : List ℕ) (r : Result Parts Refusal) → Parsed t r → record { parsed : Parsed t r; decided : Decided t r }
+both t r h = record { parsed = h; decided = decided_by t r h }
+
 pub returns-then-text-gt-MOST_BYTES : goal.returns-then-text-gt-MOST_BYTES
-returns-then-text-gt-MOST_BYTES c = let p = too_long c.if-text-gt-MOST_BYTES.true in record { parsed = p; decided = decided_by _ _ p }
+returns-then-text-gt-MOST_BYTES c = both _ _ (too_long c.if-text-gt-MOST_BYTES.true)
 
-pub returns-in-Ok : goal.returns-in-Ok
-returns-in-Ok c =
-    let p = no_expression (omega arith) (cut_short c.args.text.now c.in-Ok.at _ _ c.in-Ok.ensures c.if-at-text.true) in
-    record { parsed = p; decided = decided_by _ _ p }
+pub returns-in_err-read : goal.returns-in_err-read
+returns-in_err-read c =
+    let x = err_from_is_err_and c.from_residual.result c.from_residual.ensures.1 in
+    both _ _ (rw (x.1, x.2) (no_expression (omega arith) c.in_err-read.ensures))
 
-pub returns-in-Ok-2 : goal.returns-in-Ok-2
-returns-in-Ok-2 c =
-    let p = too_many c.args.text.now c.expression.new.parts (omega arith) c.if-parts-gt-MOST_PARTS.true (whole c.args.text.now c.in-Ok.at _ _ c.in-Ok.ensures c.if-at-text.false c.new-parts.ensures) in
-    record { parsed = p; decided = decided_by _ _ p }
-
-pub returns-in-Ok-3 : goal.returns-in-Ok-3
-returns-in-Ok-3 c =
-    let p = accepted c.args.text.now c.expression.new.parts (omega arith) c.if-parts-gt-MOST_PARTS.false (whole c.args.text.now c.in-Ok.at _ _ c.in-Ok.ensures c.if-at-text.false c.new-parts.ensures) in
-    record { parsed = p; decided = decided_by _ _ p }
-
-pub returns-in-Err : goal.returns-in-Err
-returns-in-Err c =
-    let p = no_expression (omega arith) (lost c.args.text.now c.in-Err.field-0.at c.in-Err.ensures) in
-    record { parsed = p; decided = decided_by _ _ p }
+pub returns : goal.returns
+returns c = both _ _ (rw c.ok_or.ensures.value (read_is _ _ _ (omega arith) c.in_ok-read.ensures c.finish.ensures))

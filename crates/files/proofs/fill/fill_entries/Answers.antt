@@ -1,37 +1,22 @@
-use Rattle.std.proofs.Common.{◌≡◌, ◌+◌, ◌≤◌, length, drop, arith, rules}
-use Rattle.files.specs.Reading.{size_of}
-use Rattle.files.proofs.Filling.{filling_room, filling_decoded, filling_undecoded, filling_all, size_at, payload_at}
+use Rattle.std.proofs.Common.{length, arith}
+use Rattle.std.proofs.lemmas.List.{take_all, map_push, take_more_set}
+use Rattle.std.proofs.lemmas.Grind.{common_steps}
+use Rattle.std.proofs.lemmas.Bool.Decides.{nat_tests}
+use Rattle.kinds.specs.Payloads.{valid}
+use Rattle.files.proofs.Filling.{payloads_more, behind_more, lies_at}
 use Rattle.files.proofs.fill.fill_entries.Goals as goal
 use Rattle.files.proofs.fill.fill_entries.Goals.{in-Some, in_default}
 
-pub bounds-left-at : goal.bounds-left-at
-bounds-left-at g c = let room = filling_room _ _ _ _ _ _ _ _ c.loop-i-test.true c.loop-i.invariant in omega arith
+pub split_record-requires : goal.split_record-requires
+split_record-requires g c = rw c.loop-entry.invariant.rest (lies_at (valid g.K.Payload.Payload.shape) (length c.args.entries.now) c.loop-entry.entry-index c.args.left.now (omega arith) c.requires).0
 
-pub bounds-left-at-in-loop-i : goal.bounds-left-at-in-loop-i
-bounds-left-at-in-loop-i g c = let room = filling_room _ _ _ _ _ _ _ _ c.loop-i-test.true c.loop-i.invariant in omega arith
-
-pub slice_bounds-decode-end : goal.slice_bounds-decode-end
-slice_bounds-decode-end g c =
-    let left = c.args.left.now in
-    let room = filling_room _ _ _ _ _ _ _ _ c.loop-i-test.true c.loop-i.invariant in
-    let size : c.two_bytes-size.result ≡ size_of (drop c.loop-i.at left) = size_at left c.loop-i.at c.two_bytes-size.result c.two_bytes-size.ensures in
-    let fits : c.loop-i.at + 4 + c.two_bytes-size.result ≤ length left = omega arith in
-    search rules
-
-pub loop-i-preserved : goal.loop-i-preserved
-loop-i-preserved g c =
-    let left = c.args.left.now in
-    let size : c.two_bytes-size.result ≡ size_of (drop c.loop-i.at left) = size_at left c.loop-i.at c.two_bytes-size.result c.two_bytes-size.ensures in
+pub loop-entry-preserved : goal.loop-entry-preserved
+loop-entry-preserved g c =
+    let there = lies_at (valid g.K.Payload.Payload.shape) (length c.args.entries.now) c.loop-entry.entry-index c.args.left.now (omega arith) c.requires in
     elim c.match-decode.branch [
-      | in-Some w ↦
-          filling_decoded g.K.Payload.Payload.shape g.K.Payload.Payload.encoded g.K.Payload.Payload.decoded (length c.args.entries.now) left c.loop-i.entries c.loop-i.i c.loop-i.at c.loop-i-test.true c.loop-i.invariant
-          c.match-decode.entries c.two_bytes-size.result _ w.in-Some.value c.loop-i.auto.entries size (payload_at left c.loop-i.at c.two_bytes-size.result size) w.in-Some.ensures.value w.in-Some.ensures.back w.entries-is
-      | in_default w ↦
-          absurd (filling_undecoded g.K.Payload.Payload.shape g.K.Payload.Payload.encoded g.K.Payload.Payload.decoded (length c.args.entries.now) left c.loop-i.entries c.loop-i.i c.loop-i.at c.loop-i-test.true c.loop-i.invariant
-          _ (payload_at left c.loop-i.at c.two_bytes-size.result size) w.in_default.ensures.value)
+      | in-Some w ↦ grind (arith, common_steps, payloads_more, behind_more, map_push, take_more_set)
+      | in_default w ↦ grind (arith, nat_tests)
     ]
 
-pub returns : goal.returns
-returns g c =
-    let all = filling_all g.K.Payload.Payload.shape g.K.Payload.Payload.encoded g.K.Payload.Payload.decoded (length c.args.entries.now) c.args.left.now c.loop-i.entries c.loop-i.i c.loop-i.at c.loop-i-test.false c.loop-i.auto.entries c.loop-i.invariant in
-    record { held = all.held; stored = all.stored; within = all.within; behind = all.rest }
+pub returns-clause-held : goal.returns-clause-held
+returns-clause-held g c = let all = take_all c.loop-entry.entry-index c.loop-entry.entries (omega arith) in grind (arith, common_steps)

@@ -1,6 +1,10 @@
-use Rattle.std.proofs.Common.{length}
-use Rattle.files.proofs.Filling.{Linking}
+use Rattle.std.proofs.Common.{◌≡◌, map, take}
+use Rattle.files.specs.Reading.{link_of}
+use Rattle.files.specs.Walking.{payloads_in, behind}
 use Rattle.files.proofs.fill.fill_links.Given as goal
 
-abbrev pub invariant-loop-i : goal.invariant-loop-i
-invariant-loop-i l = Linking (length l.initial.links) l.left l.links l.i
+abbrev pub invariant-loop-link : goal.invariant-loop-link
+invariant-loop-link l = record {
+  rest : l.left ≡ behind l.link-index l.initial.left;
+  stored : take l.link-index l.links ≡ map link_of (payloads_in l.link-index l.initial.left);
+}

@@ -1,6 +1,6 @@
 use Rattle.std.proofs.Common.{Ok, Err, refl, arith}
 use Rattle.std.proofs.lemmas.Result.{err_from_is_err_and}
-use Rattle.files.proofs.Booked.{surveyed_room, lies, links_lie, booked}
+use Rattle.files.proofs.Booked.{surveyed_room, entries_lie, links_lie, booked}
 use Rattle.files.proofs.RoundTrip.{decided, same_file}
 use Rattle.files.proofs.read.read_book.Goals as goal
 
@@ -11,25 +11,23 @@ returns-in_err-read g c =
     let s = surveyed_room sh c.args.entries.now c.args.links.now c.min.result c.min-2.result c.args.bytes.now (Err _) c.min.ensures c.min-2.ensures c.in_err-read.ensures in
     rw (p.1, p.2) (record { decided = decided sh _ c.args.bytes.now (Err _) s; read = (s, refl, refl); again = tt })
 
-pub fill_entries-size-requires : goal.fill_entries-size-requires
-fill_entries-size-requires g c =
-    let sh = g.K.Payload.Payload.shape in
-    let s = surveyed_room sh c.args.entries.now c.args.links.now c.min.result c.min-2.result c.args.bytes.now (Ok c.in_ok-read.read) c.min.ensures c.min-2.ensures c.in_ok-read.ensures in
-    lies sh c.args.bytes.now c.args.entries.now c.args.links.now c.in_ok-read.read s
+pub fill_entries-left-requires : goal.fill_entries-left-requires
+fill_entries-left-requires g c =
+    entries_lie g.K.Payload.Payload.shape c.args.bytes.now c.args.entries.now c.args.links.now _ _ c.min.ensures c.min-2.ensures c.in_ok-read.read c.in_ok-read.ensures _ c.split_record.ensures.behind
 
 pub fill_links-requires : goal.fill_links-requires
 fill_links-requires g c =
-    let sh = g.K.Payload.Payload.shape in
-    let s = surveyed_room sh c.args.entries.now c.args.links.now c.min.result c.min-2.result c.args.bytes.now (Ok c.in_ok-read.read) c.min.ensures c.min-2.ensures c.in_ok-read.ensures in
-    links_lie sh c.args.bytes.now c.args.entries.now c.args.links.now c.in_ok-read.read s c.fill_entries-size.result c.fill_entries-size.ensures.within c.fill_entries-size.ensures.behind
+    links_lie g.K.Payload.Payload.shape c.args.bytes.now c.args.entries.now c.args.links.now _ _ c.min.ensures c.min-2.ensures c.in_ok-read.read c.in_ok-read.ensures _ c.split_record.ensures.behind _ c.fill_entries-left.ensures.behind
 
 pub returns : goal.returns
 returns g c =
     let sh = g.K.Payload.Payload.shape in
+    let encoded = g.K.Payload.Payload.encoded in
+    let filled = c.fill_entries-left.ensures in
     let s = surveyed_room sh c.args.entries.now c.args.links.now c.min.result c.min-2.result c.args.bytes.now (Ok c.in_ok-read.read) c.min.ensures c.min-2.ensures c.in_ok-read.ensures in
-    let held = booked sh c.args.bytes.now c.args.entries.now c.args.links.now c.in_ok-read.read s c.fill_entries-size.result c.fill_entries-size.ensures.within c.fill_entries-size.ensures.behind g.K.Payload.Payload.encoded g.K.Payload.Payload.decoded c.fill_entries-size.new.entries c.fill_links.new.links c.fill_entries-size.ensures.held c.fill_entries-size.ensures.stored c.fill_links.ensures in
+    let held = booked sh c.args.bytes.now c.args.entries.now c.args.links.now _ _ c.min.ensures c.min-2.ensures c.in_ok-read.read c.in_ok-read.ensures _ c.split_record.ensures.behind _ filled.behind encoded g.K.Payload.Payload.decoded _ _ filled.held filled.stored c.fill_links.ensures in
     record {
       decided = decided sh _ c.args.bytes.now (Ok c.in_ok-read.read) s;
       read = held;
-      again = same_file sh g.K.Payload.Payload.encoded _ c.args.bytes.now _ _ (omega arith) (omega arith) held.fits held.file;
+      again = same_file sh encoded _ c.args.bytes.now _ _ (omega arith) (omega arith) held.fits held.file;
     }

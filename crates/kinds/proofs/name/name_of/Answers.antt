@@ -1,7 +1,5 @@
-use Rattle.kinds.proofs.NameFacts.{name_read}
+use Rattle.std.proofs.lemmas.List.{drop-replicate}
 use Rattle.kinds.proofs.name.name_of.Goals as goal
 
-pub returns : goal.returns
-returns c =
-    let r = name_read c.args.payload.now c.copy_front.new.out c.requires.low c.requires.high c.copy_front.ensures in
-    record { is = r.0; back = r.1 }
+pub returns-clause-is : goal.returns-clause-is
+returns-clause-is c = rw (c.copy_from_slice.ensures.after, drop-replicate)

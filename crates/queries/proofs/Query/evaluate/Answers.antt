@@ -6,5 +6,5 @@ use Rattle.queries.proofs.Query.evaluate.Goals as goal
 
 pub returns-else-table-cells_needed : goal.returns-else-table-cells_needed
 returns-else-table-cells_needed g c =
-    let e : Evaluates c.args.self.now.condition (g.S.Source.graph c.args.source.now) c.args.table.now (Evaluated c.in-Parsed-default-1.parts.now c.entries-n.result) c.evaluate.new.table (Ok tt) = search rules in
-    record { evaluated = e; meant = evaluated_meant _ _ _ _ _ c.args.self.now.some e }
+    let e : Evaluates c.args.self.now (g.S.Source.graph c.args.source.now) c.args.table.now (Evaluated c.in-Parsed-default-1.parts.now c.in-Parsed-default-1.entries) c.evaluate.new.table (Ok tt) = search rules in
+    record { evaluated = e; meant = evaluated_meant _ _ _ _ _ e }

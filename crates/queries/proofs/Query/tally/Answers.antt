@@ -1,5 +1,9 @@
-use Rattle.queries.proofs.Answers.{tallied_all}
+use Rattle.std.proofs.Common.{◌∙◌, arith}
+use Rattle.std.proofs.lemmas.Bool.Decides.{nat_tests}
+use Rattle.queries.proofs.Sums.{block_tally}
 use Rattle.queries.proofs.Query.tally.Goals as goal
 
-pub returns-in-Some : goal.returns-in-Some
-returns-in-Some c = tallied_all _ _ _ _ _ _ c.in-Evaluated-default.is-0 c.in-Some.ensures c.tally_rows.ensures
+pub returns-in_ok-block-in-Evaluated-default : goal.returns-in_ok-block-in-Evaluated-default
+returns-in_ok-block-in-Evaluated-default c =
+    let w = rw c.as_slice.ensures.front at c.in_ok-block-in-Evaluated-default.ensures in
+    rw (← c.self.view_is, c.in-Evaluated-default.is-0) (grind (arith, nat_tests), c.tally.ensures ∙ block_tally _ _ _ w.size w.cells)

@@ -1,19 +1,15 @@
-use Rattle.std.proofs.Common.{◌*◌, length, subst, arith}
-use Rattle.tables.specs.Tables.{Filled}
-use Rattle.tables.proofs.Shown.{block_before, block_next, filled_none, filled_more}
+use Rattle.std.proofs.Common.{◌*◌, length, ap, arith, rules}
+use Rattle.std.proofs.lemmas.List.{places}
+use Rattle.tables.proofs.Rows.{row_end}
+use Rattle.tables.proofs.Filling.{front_shown, filled_more}
 use Rattle.tables.proofs.evaluate.evaluate.Goals as goal
 
-pub loop-q-init : goal.loop-q-init
-loop-q-init g c = filled_none _ _ _
-
-pub evaluate_part-requires : goal.evaluate_part-requires
-evaluate_part-requires g c =
-    let b = block_before (length c.args.parts.now) c.loop-q.q (c.args.n * c.args.n) c.loop-q-test.true in
-    let r = block_next c.loop-q.q (c.args.n * c.args.n) in
-    record { entries = c.requires.entries; few = (omega arith, (c.loop-q-test.true, omega arith)); formed = c.requires.formed; room = omega arith; shown = c.loop-q.invariant.cells }
+pub fill-requires-clause-shown : goal.fill-requires-clause-shown
+fill-requires-clause-shown g c =
+    rw c.split_at_mut-done.ensures.front (front_shown (g.S.Source.graph c.args.source.now) c.args.parts.now c.loop-q.q _ c.loop-q.table (omega (arith, ap (λ k. c.loop-q.q * (k * k)) c.requires.entries)) c.loop-q.invariant.cells)
 
 pub loop-q-preserved : goal.loop-q-preserved
-loop-q-preserved g c = filled_more _ _ _ _ _ _ c.loop-q.invariant c.evaluate_part.ensures
-
-pub returns : goal.returns
-returns g c = subst (λ k. Filled (g.S.Source.graph c.args.source.now) c.args.parts.now k c.args.table.now c.loop-q.table) (omega arith) c.loop-q.invariant
+loop-q-preserved g c =
+    let r = row_end c.loop-q.q (c.args.n * c.args.n) (length c.args.parts.now) c.loop-q-test.true in
+    rw (c.split_at_mut-done.ensures.front, c.split_at_mut-done.ensures.back)
+    (filled_more (g.S.Source.graph c.args.source.now) c.args.n c.requires.entries c.args.parts.now c.loop-q.q c.args.table.now c.loop-q.table _ c.fill.new.self.cells.now c.loop-q.invariant (search (rules, places)) (omega arith) c.fill.ensures.cells (search rules))

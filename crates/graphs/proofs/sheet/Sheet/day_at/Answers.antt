@@ -1,17 +1,15 @@
-use Rattle.std.proofs.Common.{◌+◌, arith}
-use Rattle.graphs.proofs.SheetFacts.{day_here, day_more, sheet_few}
+use Rattle.std.proofs.Common.{arith, sym}
+use Rattle.std.proofs.lemmas.Option.{slice_get_past}
+use Rattle.graphs.proofs.SheetFacts.{day_within, length-sheet_days_more}
 use Rattle.graphs.proofs.sheet.Sheet.day_at.Goals as goal
 
-pub returns-then-left-length : goal.returns-then-left-length
-returns-then-left-length c =
-    let s = c.args.self.now in
-    let few = (sheet_few s.year s.month s.count s.ok).1 in
-    record {
-      months = omega (arith, few, c.loop-month-test.true);
-      is = day_here s.year c.loop-month.month (s.month + s.count) c.loop-month-test.true c.loop-month.left c.length_of-length.result _ c.length_of-length.ensures.is c.if-left-length.true c.loop-month.invariant;
-    }
-
 pub loop-month-preserved : goal.loop-month-preserved
-loop-month-preserved c =
+loop-month-preserved c = grind (arith, length-sheet_days_more)
+
+pub returns-then-left-length-clause-is : goal.returns-then-left-length-clause-is
+returns-then-left-length-clause-is c =
     let s = c.args.self.now in
-    day_more s.year c.loop-month.month (s.month + s.count) c.loop-month-test.true c.loop-month.left c.length_of-length.result _ c.length_of-length.ensures.is c.if-left-length.false c.loop-month.invariant
+    sym (day_within s.year s.month s.count c.in-Some.month c.loop-month.left c.args.entry (grind arith) (grind arith) (grind arith) (grind arith))
+
+pub returns-clause-is : goal.returns-clause-is
+returns-clause-is c = grind (arith, slice_get_past)

@@ -1,23 +1,26 @@
-use Rattle.graphs.specs.Sheets.{sheet_days}
-use Rattle.graphs.proofs.SheetPlaces.{place_past, place_day, place_week, place_month}
+use Rattle.std.proofs.Common.{arith, ◌≡◌, ℕ, ◌%◌, ◌/◌, Some, rules}
+use Rattle.std.proofs.lemmas.Bool.Decides.{nat_tests}
+use Rattle.std.proofs.lemmas.Option.{get_or_from_slice_get}
+use Rattle.std.specs.Option.{option_map}
+use Rattle.graphs.specs.Graphs.{value_at}
+use Rattle.graphs.specs.Sheets.{days_in, link_to}
+use Rattle.graphs.specs.SheetLaws.{place_past, place_within}
 use Rattle.graphs.proofs.sheet.SheetSource.link_at.Goals as goal
+use Rattle.graphs.proofs.sheet.SheetSource.link_at.Goals.{in-0, in-1, in_default}
 
-pub returns-in_default : goal.returns-in_default
-returns-in_default c =
-    let s = c.args.self.now in
-    place_past (sheet_days s.year s.month s.count) c.args.place c.in_default.ensures.is
+pub returns-in_err-month : goal.returns-in_err-month
+returns-in_err-month c = grind (arith, place_past)
 
-pub returns-then-part-eq0 : goal.returns-then-part-eq0
-returns-then-part-eq0 c =
-    let s = c.args.self.now in
-    place_day (sheet_days s.year s.month s.count) c.args.place _ c.in-Some.ensures.is _ c.if-part-eq0.true c.later.ensures
-
-pub returns-then-part-eq1 : goal.returns-then-part-eq1
-returns-then-part-eq1 c =
-    let s = c.args.self.now in
-    place_week (sheet_days s.year s.month s.count) c.args.place _ c.in-Some.ensures.is _ c.if-part-eq1.true c.later-then-part-eq1.ensures
-
-pub returns-else-part-eq1 : goal.returns-else-part-eq1
-returns-else-part-eq1 c =
-    let s = c.args.self.now in
-    place_month (sheet_days s.year s.month s.count) c.args.place _ c.in-Some.ensures.is _ c.if-part-eq0.false c.if-part-eq1.false c.next_month.ensures
+pub returns : goal.returns
+returns c =
+    let days = days_in c.args.self.now in
+    let from = c.args.place / 3 in
+    let day : ℕ × ℕ = (c.in_ok-month.month, c.in_ok-month.date) in
+    let there : value_at days from ≡ Some day = grind arith in
+    let is : c.map.result ≡ option_map (link_to from c.match-place-rem3.letter.0) c.match-place-rem3.letter.1 = search rules in
+    rw (is, place_within days c.args.place day there)
+    (elim c.match-place-rem3.branch [
+      | in-0 w ↦ rw (w.letter-is, w.in-0.is, w.later.ensures) (grind (arith, nat_tests))
+      | in-1 w ↦ rw (w.letter-is, w.in-1.is, w.later-in-1.ensures) (grind (arith, nat_tests))
+      | in_default w ↦ let rest : c.args.place % 3 ≡ 2 = omega arith in rw (w.letter-is, rest, w.entry_of.ensures, get_or_from_slice_get days from day (0, 0) there)
+    ])

@@ -1,5 +1,5 @@
 use Rattle.std.proofs.Common.{◌*◌, sym, ap, ◌∙◌}
-use Rattle.graphs.proofs.SheetPlaces.{places_length}
+use Rattle.graphs.specs.SheetLaws.{places_length}
 use Rattle.graphs.proofs.sheet.SheetSource.places.Goals as goal
 
 pub returns : goal.returns

@@ -1,6 +1,5 @@
-use Rattle.std.proofs.Common.{refl, arith}
 use Rattle.kinds.proofs.DayFacts.{day_valid}
 use Rattle.kinds.proofs.day.DayPayloadPayloadDay.size.Goals as goal
 
-pub returns : goal.returns
-returns c = record { small = omega arith; is = refl; valid = day_valid c.args._value.now }
+pub returns-clause-valid : goal.returns-clause-valid
+returns-clause-valid c = day_valid c.args._value.now
