@@ -59,6 +59,7 @@ pub(crate) fn list(heap: Global, evaluated: Evaluated) -> Result<Vec<u8>, AllocE
     let mut text = Vec::new(heap);
     let pairs = evaluated.tally();
     put_line(&mut text, |line| first_line(evaluated.entries, pairs, line))?;
+    // By number, as in `put_row`.
     for u in 0..evaluated.entries {
         put_row(&mut text, evaluated, u)?;
     }

@@ -7,7 +7,7 @@ use inputs::LINE;
 use listing::lines::{record_line, refusal_line};
 use refusals::Refusal;
 
-// What became of an input, and how long the line of it is.
+// What became of an input, and how long the line of it is, which lies in the caller's buffer.
 #[derive(Clone, Copy, PartialEq, Eq, Debug)]
 pub enum Report {
     Accepted(usize),

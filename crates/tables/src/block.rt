@@ -14,6 +14,7 @@ pub(crate) struct Block<'a> {
 }
 
 // The methods that pass on a part of the cells name the slice first: of a slice in a field that is passed on, a proof knows only its length.
+// Blocks that are read are slices, whose length is asked: with a struct for them too it would be asked that the two are of as many entries.
 impl Block<'_> {
     ghost use Rattle.tables.specs.Blocks.{block_cell, cell_in, Holds, SamePlace};
 

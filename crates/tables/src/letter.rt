@@ -18,6 +18,7 @@ impl Block<'_> {
         let n = self.n;
         let cells = &mut *self.cells;
         cells.fill(NONE);
+        // A place is known by its number.
         for place in 0..source.places() {
             let Some(link) = source.link_at(place) else {
                 continue;
