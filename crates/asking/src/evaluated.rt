@@ -1,5 +1,5 @@
 // A query that was evaluated, asked about pairs of entries.
-ghost use Rattle.std.specs.Prelude.{◌≡◌, ℕ, ◌<◌, ◌≤◌, None};
+ghost use Rattle.std.specs.Prelude.{◌≡◌, ℕ, ◌<◌, None};
 ghost use Rattle.queries.specs.Calls.{pair_rows, found_in};
 ghost use Rattle.queries.specs.Conditions.{entries_in, whole_cell};
 ghost use Rattle.queries.specs.Pairs.{tallied};

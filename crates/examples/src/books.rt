@@ -1,5 +1,5 @@
 // Books that are read and written again.
-use crate::{ALL_SOULS, reports};
+use crate::ALL_SOULS;
 use files::counts::Counts;
 use files::read::read_book;
 use files::write::write_book;
@@ -51,37 +51,4 @@ fn all_souls(rt: HostRuntime) -> Result<(), Fail> {
     assert!(rt; &out[0..85] == ALL_SOULS);
     assert!(rt; &out[85..100] == [7; 15].as_slice());
     Ok(())
-}
-
-#[test]
-fn longest_names(rt: HostRuntime) {
-    let mut input = [b'x'; 145];
-    input[0..11].copy_from_slice(b"\n\x02\x00\x01\x00\x01\x00\x80\x00\x02\x00");
-    assert!(rt; reports(&input[0..139], b"entries 1 links 0 bytes 138\n"));
-    input[7] = 129;
-    assert!(rt; reports(&input[0..140], b"refused 13 at 6\n"));
-    input[7] = 0;
-    assert!(rt; reports(&input[0..11], b"refused 13 at 6\n"));
-}
-
-#[test]
-fn days(rt: HostRuntime) {
-    assert!(rt;
-        reports(
-            b"\n\x02\x00\x01\x00\x02\x00\x05\x00\x02\x00\x01\x6c\x07\x02\x1d",
-            b"entries 1 links 0 bytes 15\n",
-        )
-    );
-    assert!(rt;
-        reports(
-            b"\n\x02\x00\x01\x00\x02\x00\x05\x00\x02\x00\x00\x6c\x07\x02\x1d",
-            b"refused 14 at 6\n",
-        )
-    );
-    assert!(rt;
-        reports(
-            b"\n\x02\x00\x01\x00\x02\x00\x05\x00\x02\x00\x02\x6c\x07\x02\x1c",
-            b"refused 14 at 6\n",
-        )
-    );
 }

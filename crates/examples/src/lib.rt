@@ -2,7 +2,6 @@
 #![tactic(auto)]
 
 use asking::answer::{Answer, answer_to};
-use imports::report::{Report, report_on};
 use kinds::calendar::Calendar;
 use kinds::day::Day;
 use std::alloc::Global;
@@ -10,19 +9,6 @@ use std::alloc::Global;
 // All Souls, copied three times and once cut short, as a file of 85 bytes.
 const ALL_SOULS: &[u8] =
     b"\x02\x00\x01\x00\x01\x00\x09\x00\x02\x00All Souls\x09\x00\x02\x00All Souls\x08\x00\x02\x00All Soul\x09\x00\x02\x00All Souls\x03\x00\x03\x00\x00c\x01\x03\x00\x03\x00\x01c\x02\x03\x00\x03\x00\x02c\x03\x03\x00\x03\x00\x00p\x03";
-
-// Whether the program prints this line of this input, and accepts it just where that is a record.
-#[cfg(test)]
-fn reports(input: &[u8], line: &[u8]) -> bool {
-    let mut out = [0; 128];
-    match report_on(input, &mut out) {
-        Ok(report) => {
-            let accepted = matches!(report, Report::Accepted(_));
-            &out[..report.length()] == line && accepted == line.starts_with(b"e")
-        }
-        Err(_) => false,
-    }
-}
 
 // Whether this text is what `answer_to` makes of this input, accepted just where it is an answer.
 #[cfg(test)]

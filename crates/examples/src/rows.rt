@@ -1,12 +1,11 @@
 // Refusals of inputs, files, books and lines, met with their places.
-use crate::{ALL_SOULS, answers, reports};
+use crate::{ALL_SOULS, answers};
 use files::read::read_book;
 use files::write::write_book;
 use graphs::link::Link;
 use kinds::name::Name;
-use listing::lines::{first_line, long_line, pair_line, record_line, refusal_line};
+use listing::lines::{first_line, long_line, pair_line, refusal_line};
 use refusals::Refusal;
-use std::alloc::Global;
 
 const BLANK: Name = Name {
     len: 1,
@@ -19,16 +18,8 @@ const LOOP: Link = Link {
     to: 0,
 };
 
-// Whether the import check and the answer both refuse an input, with the same line.
-fn refuses(heap: Global, input: &[u8], line: &[u8]) -> bool {
-    reports(input, line) && answers(heap, input, line)
-}
-
 #[test]
 fn input(rt: HostRuntime) {
-    assert!(rt; reports(&[b'c'; 8193], b"refused 10 at 0\n"));
-    assert!(rt; reports(&[b'c'; 8192], b"refused 11 at 0\n"));
-    assert!(rt; reports(b"", b"refused 11 at 0\n"));
     assert!(rt; answers(rt.alloc(), &[b'c'; 8193], b"refused 10 at 0\n"));
     assert!(rt; answers(rt.alloc(), &[b'c'; 8192], b"refused 23 at 0\n"));
     assert!(rt; answers(rt.alloc(), b"", b"refused 21 at 0\n"));
@@ -37,40 +28,34 @@ fn input(rt: HostRuntime) {
 
 #[test]
 fn headings(rt: HostRuntime) {
-    assert!(rt; refuses(rt.alloc(), b"c\n\x02\x00\x01", b"refused 11 at 0\n"));
+    assert!(rt; answers(rt.alloc(), b"c\n\x02\x00\x01", b"refused 11 at 0\n"));
     assert!(rt;
-        refuses(
+        answers(
             rt.alloc(),
             b"c\n\x02\x00\x02\x00\x01\x00",
             b"refused 12 at 0\n"
         )
     );
     assert!(rt;
-        refuses(
+        answers(
             rt.alloc(),
             b"c\n\x02\x00\x02\x00\x02\x00",
             b"refused 12 at 0\n"
         )
     );
     assert!(rt;
-        refuses(
+        answers(
             rt.alloc(),
             b"c\n\x03\x00\x01\x00\x01\x00\x00",
             b"refused 13 at 0\n"
         )
     );
-    assert!(rt; refuses(rt.alloc(), b"c\n\x02\x00\x01\x00\x01", b"refused 11 at 0\n"));
+    assert!(rt; answers(rt.alloc(), b"c\n\x02\x00\x01\x00\x01", b"refused 11 at 0\n"));
     assert!(rt;
-        refuses(
+        answers(
             rt.alloc(),
             b"c\n\x02\x00\x01\x00\x03\x00",
             b"refused 12 at 0\n"
-        )
-    );
-    assert!(rt;
-        reports(
-            b"c\n\x02\x00\x01\x00\x01\x00",
-            b"entries 0 links 0 bytes 6\n"
         )
     );
     assert!(rt;
@@ -81,21 +66,21 @@ fn headings(rt: HostRuntime) {
         )
     );
     assert!(rt;
-        refuses(
+        answers(
             rt.alloc(),
             b"c\n\x02\x00\x01\x00\x01\x00\x01\x00\x02",
             b"refused 11 at 6\n"
         )
     );
     assert!(rt;
-        refuses(
+        answers(
             rt.alloc(),
             b"c\n\x02\x00\x01\x00\x01\x00\x02\x00\x01\x00\x01\x00",
             b"refused 12 at 6\n"
         )
     );
     assert!(rt;
-        refuses(
+        answers(
             rt.alloc(),
             b"c\n\x02\x00\x01\x00\x01\x00\x02\x00\x02\x00x",
             b"refused 11 at 6\n"
@@ -106,12 +91,6 @@ fn headings(rt: HostRuntime) {
 #[test]
 fn links(rt: HostRuntime) {
     assert!(rt;
-        reports(
-            b"c\n\x02\x00\x01\x00\x01\x00\x01\x00\x02\x00x\x03\x00\x03\x00\x00a\x00",
-            b"entries 1 links 1 bytes 18\n"
-        )
-    );
-    assert!(rt;
         answers(
             rt.alloc(),
             b"c\n\x02\x00\x01\x00\x01\x00\x01\x00\x02\x00x\x03\x00\x03\x00\x00a\x00",
@@ -119,42 +98,42 @@ fn links(rt: HostRuntime) {
         )
     );
     assert!(rt;
-        refuses(
+        answers(
             rt.alloc(),
             b"c\n\x02\x00\x01\x00\x01\x00\x01\x00\x02\x00x\x03\x00\x03\x00\x00A\x00",
             b"refused 15 at 11\n"
         )
     );
     assert!(rt;
-        refuses(
+        answers(
             rt.alloc(),
             b"c\n\x02\x00\x01\x00\x01\x00\x01\x00\x02\x00x\x03\x00\x03\x00\x00{\x00",
             b"refused 15 at 11\n"
         )
     );
     assert!(rt;
-        refuses(
+        answers(
             rt.alloc(),
             b"c\n\x02\x00\x01\x00\x01\x00\x01\x00\x02\x00x\x03\x00\x03\x00\x01a\x00",
             b"refused 15 at 11\n"
         )
     );
     assert!(rt;
-        refuses(
+        answers(
             rt.alloc(),
             b"c\n\x02\x00\x01\x00\x01\x00\x01\x00\x02\x00x\x03\x00\x03\x00\x00a\x01",
             b"refused 15 at 11\n"
         )
     );
     assert!(rt;
-        refuses(
+        answers(
             rt.alloc(),
             b"c\n\x02\x00\x01\x00\x01\x00\x01\x00\x02\x00x\x02\x00\x03\x00\x00a\x00",
             b"refused 13 at 11\n"
         )
     );
     assert!(rt;
-        refuses(
+        answers(
             rt.alloc(),
             b"c\n\x02\x00\x01\x00\x01\x00\x01\x00\x02\x00x\x03\x00\x03\x00\x00a\x00\x01\x00\x02\x00y",
             b"refused 12 at 18\n"
@@ -166,7 +145,7 @@ fn links(rt: HostRuntime) {
 #[test]
 fn program_room(rt: HostRuntime) {
     assert!(rt;
-        refuses(
+        answers(
             rt.alloc(),
             b"c\n\x02\x00\x01\x00\x01\x00\x01\x00\x02\x00x\x01\x00\x02\x00x\x01\x00\x02\x00x\x01\x00\x02\x00x\x01\x00\x02\x00x\x01\x00\x02\x00x\x01\x00\x02\x00x\x01\x00\x02\x00x\x01\x00\x02\x00x\x01\x00\x02\x00x\x01\x00\x02\x00x\x01\x00\x02\x00x\x01\x00\x02\x00x\x01\x00\x02\x00x\x01\x00\x02\x00x\x01\x00\x02\x00x\x01\x00\x02\x00x",
             b"refused 16 at 86\n"
@@ -239,10 +218,6 @@ fn writing(rt: HostRuntime) {
 #[test]
 fn lines(rt: HostRuntime) {
     let mut out = [7; 32];
-    assert_eq!(rt;
-        record_line(4, 4, 85, &mut out[0..26]),
-        Err(Refusal::TextTooShort)
-    );
     assert_eq!(rt;
         first_line(4, 3, &mut out[0..17]),
         Err(Refusal::TextTooShort)

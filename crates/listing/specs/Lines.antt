@@ -13,10 +13,6 @@ newline = 10 ∷ []
 abbrev pub refusal_line : Refusal → List ℕ
 refusal_line x = refusal_text x ++ newline
 
--- entries 4 links 4 bytes 85
-abbrev pub record_line : ℕ → ℕ → ℕ → List ℕ
-record_line entries links bytes = codes "entries " ++ decimal entries ++ codes " links " ++ decimal links ++ codes " bytes " ++ decimal bytes ++ newline
-
 -- entries 4 pairs 3
 abbrev pub first_line : ℕ → ℕ → List ℕ
 first_line entries pairs = codes "entries " ++ decimal entries ++ codes " pairs " ++ decimal pairs ++ newline

@@ -1,6 +1,6 @@
-// The lines of an import, of an answer and of a refusal.
+// The lines of an answer, and of a refusal.
 ghost use Rattle.std.specs.Prelude.{◌≡◌, ℕ, ◌≤◌, length, flat_map, sum_by};
-ghost use Rattle.listing.specs.Lines.{refusal_line, record_line, first_line, pair_line, long_line, Lined};
+ghost use Rattle.listing.specs.Lines.{refusal_line, first_line, pair_line, long_line, Lined};
 
 use itoa::Buffer;
 use refusals::Refusal;
@@ -16,30 +16,6 @@ pub fn refusal_line(refusal: Refusal, out: &mut [u8]) -> Result<usize, Refusal>
             Buffer::new().format(refusal.number()),
             " at ",
             Buffer::new().format(refusal.place()),
-            "\n",
-        ],
-        out,
-    )
-}
-
-// The record of an import: how many entries, links and bytes the book has, as `entries 4 links 4 bytes 85`.
-pub fn record_line(
-    entries: usize,
-    links: usize,
-    bytes: usize,
-    out: &mut [u8],
-) -> Result<usize, Refusal>
-    ensures lined { Lined (record_line entries links bytes) out.old out.new result }
-    ensures short { length (record_line entries links bytes) ≤ 128 }
-{
-    put_line(
-        &[
-            "entries ",
-            Buffer::new().format(entries),
-            " links ",
-            Buffer::new().format(links),
-            " bytes ",
-            Buffer::new().format(bytes),
             "\n",
         ],
         out,

@@ -1,9 +1,9 @@
-// Reads a wording, byte 10 and a book file from standard input, checks the file, and prints the record of the import or the line of the refusal.
+// Reads a wording, byte 10 and a book file from standard input, asks the question of the book, and prints the lines of the answer or the line of the refusal.
 #![tactic(auto)]
 
 use anyhow::anyhow;
-use imports::report::{Report, report_on};
-use inputs::{LINE, MOST_INPUT};
+use asking::answer::{Answer, answer_to};
+use inputs::MOST_INPUT;
 use std::io::{Read, Write};
 
 // A refusal ends the program with status 1, so that no script takes it for an answer.
@@ -12,11 +12,10 @@ fn main(rt: HostRuntime) -> anyhow::Result<()> {
     rt.stdin()
         .take(MOST_INPUT as u64 + 1)
         .read_to_end(&mut input)?;
-    let mut line = [0; LINE];
-    let report = report_on(&input, &mut line).unwrap();
-    rt.stdout().write_all(&line[..report.length()])?;
-    match report {
-        Report::Accepted(_) => Ok(()),
-        Report::Refused(_) => Err(anyhow!("refused")),
+    let answer = answer_to(rt.alloc(), &input)?;
+    rt.stdout().write_all(answer.text())?;
+    match answer {
+        Answer::Listed(_) => Ok(()),
+        Answer::Refused(_) => Err(anyhow!("refused")),
     }
 }
