@@ -5,7 +5,7 @@ ghost use Rattle.tables.specs.Blocks.{block_cell, Holds, SamePlace};
 
 use crate::block::Block;
 use crate::cell::NONE;
-use crate::relax::relax_row;
+use crate::relax::lower_row;
 
 // One row: its row of the left block leads to every middle, and the right block on from there.
 fn join_row(row: &mut [u32], left: &[u32], right: &[u32], n: usize)
@@ -16,7 +16,7 @@ fn join_row(row: &mut [u32], left: &[u32], right: &[u32], n: usize)
 {
     row.fill(NONE);
     for (m, first) in left.iter().enumerate() {
-        relax_row(row, *first, &right[m * n..(m + 1) * n]);
+        lower_row(row, *first, &right[m * n..(m + 1) * n]);
     }
 }
 

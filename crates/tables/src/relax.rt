@@ -16,7 +16,7 @@ fn joined(first: u32, second: u32) -> u32
     }
 }
 
-// Goes over a middle with one row: `first` leads to the middle, and `middle` on from there. A cell is stored where that makes it smaller.
+// Goes over a middle with one row: `first` leads to the middle, and `middle` on from there. A cell is stored exactly where that makes it smaller.
 pub(crate) fn relax_row(row: &mut [u32], first: u32, middle: &[u32])
     requires same_length { length row.old ≡ length middle.now }
     requires small { EachIndex row.old (λ v. slice_index row.old v ≤ none) }
@@ -30,5 +30,19 @@ pub(crate) fn relax_row(row: &mut [u32], first: u32, middle: &[u32])
         if over < *cell {
             *cell = over;
         }
+    }
+}
+
+// The same with each cell stored, which the compiler does for several at a time: for a row whose cells are all stored anyway.
+pub(crate) fn lower_row(row: &mut [u32], first: u32, middle: &[u32])
+    requires same_length { length row.old ≡ length middle.now }
+    requires small { EachIndex row.old (λ v. slice_index row.old v ≤ none) }
+    ensures { EachIndex row.new (λ v. slice_index row.new v ≡ min (slice_index row.old v) (sat_add first (slice_index middle.now v))) }
+{
+    if first > LONG {
+        return;
+    }
+    for (v, cell) in row.iter_mut().enumerate() {
+        *cell = (*cell).min(joined(first, middle[v]));
     }
 }
