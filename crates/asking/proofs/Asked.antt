@@ -1,23 +1,34 @@
 -- What comes of asking, from what the steps say. Assumes nothing.
-use Rattle.std.proofs.Common.{◌≡◌, ℕ, ◌-◌, ◌<◌, ◌≤◌, Bool, true, false, eqb, ◌⊎◌, List, length, Some, Ok, Err, MatchBool, Result, sym, ap, ◌∙◌, subst, ⊎_elim, arith}
+use Rattle.std.proofs.Common.{◌≡◌, ℕ, ◌-◌, ◌*◌, ◌<◌, ◌≤◌, Bool, true, false, eqb, ◌⊎◌, List, length, take, Some, None, Ok, Err, MatchBool, Result, is_none, sym, ap, ◌∙◌, subst, ⊎_elim, arith}
+use Rattle.std.proofs.lemmas.Bool.Decides.{nat_tests}
+use Rattle.std.proofs.lemmas.List.{length-map, take_at}
+use Rattle.expressions.proofs.Numbered.{length-parts}
 use Rattle.expressions.specs.Storing.{parts_of}
-use Rattle.expressions.specs.Wordings.{Accepted, Refused as WordingRefused, Parsed as WordingParsed}
+use Rattle.expressions.specs.Wordings.{Accepted, Worded, Refused as WordingRefused, Parsed as WordingParsed}
 use Rattle.expressions.specs.declared.part.Parts.{Parts}
 use Rattle.files.specs.Reading.{Refused}
 use Rattle.graphs.specs.Graphs.{Graph}
 use Rattle.kinds.specs.Days.{day_bytes, day_shape, same_day}
 use Rattle.kinds.specs.Names.{text, name_shape, same_name}
-use Rattle.languages.specs.Cells.{Cell, Lengths}
-use Rattle.queries.specs.Calls.{evaluate_rows, Follows, Parses, Evaluates}
-use Rattle.queries.specs.Conditions.{whole_cell}
+use Rattle.kinds.specs.Payloads.{Shape}
+use Rattle.languages.specs.Cells.{Cell, Lengths, long}
+use Rattle.languages.specs.Languages.{Joined}
+use Rattle.languages.specs.declared.step.Step.{Step}
+use Rattle.queries.specs.Calls.{evaluate_rows, Follows, Parses, Evaluates, Traces}
+use Rattle.queries.specs.Conditions.{entries_in, whole_cell, chosen_in}
 use Rattle.queries.specs.declared.condition.Condition.{Condition}
 use Rattle.queries.specs.declared.condition.Condition.TheVariants.{Parsed, Evaluated}
 use Rattle.refusals.specs.Rows.{first_refusal}
 use Rattle.refusals.specs.declared.Refusal.{Refusal}
-use Rattle.asking.specs.Asking.{BookOf, BookIn, WorkedAs, Worked, by_file, by_room, Asked, Asks}
-use Rattle.asking.specs.Answers.{program_cells, Listed}
-use Rattle.asking.specs.Listings.{listing_text}
-use Rattle.inputs.specs.Input.{most_input, program_room, wording, book_file, value_kind}
+use Rattle.refusals.specs.declared.Refusal.TheVariants.{TableTooShort}
+use Rattle.tables.specs.Tables.{block_at}
+use Rattle.traces.proofs.Joins.{chosen_joins}
+use Rattle.asking.specs.Answers.{Listed}
+use Rattle.asking.specs.Input.{most_input, program_room, program_cells, wording, book_file, value_kind}
+use Rattle.asking.specs.Asking.{cells_for, BookOf, BookIn, by_file, by_room}
+use Rattle.asking.specs.Chosen.{Unaltered, steps_of}
+use Rattle.asking.specs.Tells.{WorkedAs, Worked, Asked, Asks, listing_text}
+use Rattle.asking.proofs.Listing.{lines_told}
 
 -- a refusal of the file or of the evaluation, and a book that was evaluated, whichever the kind
 refusal_of : (b : Bool) (file : List ℕ) (q : Condition) (t : List ℕ) (q' : Condition) (t' : List ℕ) (x : Refusal) → MatchBool b (WorkedAs day_shape day_bytes same_day program_room file q t q' t' (Err x)) (WorkedAs name_shape text same_name program_room file q t q' t' (Err x)) → MatchBool b (Refused day_shape program_room file x) (Refused name_shape program_room file x) ⊎ ((g : Graph) × MatchBool b (BookOf day_shape day_bytes same_day program_room file g) (BookOf name_shape text same_name program_room file g) × (first_refusal (evaluate_rows q g t) ≡ Some x))
@@ -28,20 +39,73 @@ book_of_lem : (b : Bool) (file : List ℕ) (q : Condition) (t : List ℕ) (q' : 
 book_of_lem true file q t q' t' n w = w
 book_of_lem false file q t q' t' n w = w
 
-pub asked_by : (input t t' : List ℕ) (parts : Parts) (q' : Condition) (r : Result ℕ Refusal) → length input ≤ most_input → Accepted (wording input) parts → Worked (book_file input) (Parsed parts) t q' t' r → Asked input t q' t' r
-asked_by input t t' parts q' (Ok n) h a w = record { short = h; parts = parts; accepted = a; worked = w }
-asked_by input t t' parts q' (Err x) h a w =
-    ⊎_elim (λ f. by_file h a f) (λ p. by_room p.0 h a p.1 p.2) (refusal_of (eqb (value_kind (book_file input)) 2) (book_file input) (Parsed parts) t q' t' x w)
+-- an accepted wording is that of its expression, and needs as many cells as the expression
+worded : {t : List ℕ} {parts : Parts} (a : Accepted t parts) → Worded t a.expr
+worded a = record { means = a.means; short = a.short; few = a.few }
 
--- what was evaluated tells the cells of the data paths
+cells_needed : {t : List ℕ} {parts : Parts} (a : Accepted t parts) (g : Graph) → block_at g.entries (length (parts_of parts)) ≡ cells_for a.expr g
+cells_needed a g = ap (λ p. p * (g.entries * g.entries)) (ap length a.stored.parts ∙ length-parts 0 a.expr)
+
+-- a book for which there is room has few entries
+few_of : {V : Type 0} (sh : Shape) (encoded : V → List ℕ) (alike : V → V → Bool) (file : List ℕ) (g : Graph) → BookOf sh encoded alike program_room file g → g.entries ≤ 16
+few_of sh encoded alike file g b = rw (ap (λ x. x.entries) b.graph) (omega (arith, b.fits.entries, length-map b.values encoded))
+
+few_entries : (b : Bool) (file : List ℕ) (g : Graph) → MatchBool b (BookOf day_shape day_bytes same_day program_room file g) (BookOf name_shape text same_name program_room file g) → g.entries ≤ 16
+few_entries true file g w = few_of day_shape day_bytes same_day file g w
+few_entries false file g w = few_of name_shape text same_name file g w
+
+-- so a refused evaluation lacks cells, and an accepted one has them
+lacks : (n p room : ℕ) (parts : Parts) (g : Graph) (t : List ℕ) (x : Refusal) → g.entries ≤ 16 → length t ≡ room → block_at g.entries (length (parts_of parts)) ≡ p → first_refusal (evaluate_rows (Parsed parts) g t) ≡ Some x → (x ≡ TableTooShort) × (room < p)
+lacks n p room parts g t x few z e r = grind (arith, nat_tests)
+
+has : (p room : ℕ) (parts : Parts) (g : Graph) (t : List ℕ) → length t ≡ room → block_at g.entries (length (parts_of parts)) ≡ p → first_refusal (evaluate_rows (Parsed parts) g t) ≡ None → p ≤ room
+has p room parts g t z e r = grind (arith, nat_tests)
+
+pub asked_by : (input t t' : List ℕ) (parts : Parts) (q' : Condition) (r : Result ℕ Refusal) → length t ≡ program_cells → length input ≤ most_input → Accepted (wording input) parts → Worked (book_file input) (Parsed parts) t q' t' r → Asked input t q' t' r
+asked_by input t t' parts q' (Ok n) z h a w = record { short = h; parts = parts; accepted = a; worked = w }
+asked_by input t t' parts q' (Err x) z h a w =
+    ⊎_elim (λ f. by_file h (worded a) f)
+    (λ p.
+    let few = few_entries (eqb (value_kind (book_file input)) 2) (book_file input) p.0 p.1 in
+    let l = lacks 0 _ _ parts p.0 t x few z (cells_needed a p.0) p.2 in
+    rw l.0 (by_room p.0 h (worded a) p.1 l.1))
+    (refusal_of (eqb (value_kind (book_file input)) 2) (book_file input) (Parsed parts) t q' t' x w)
+
+-- what was evaluated over the book
 pub asks_book : (input t t' : List ℕ) (q' : Condition) (n : ℕ) (a : Asks input t q' t' n) → (g : Graph) × BookIn (book_file input) g × (n ≡ g.entries) × Evaluates (Parsed a.parts) g t q' t' (Ok tt)
 asks_book input t t' q' n a = book_of_lem (eqb (value_kind (book_file input)) 2) (book_file input) (Parsed a.parts) t q' t' n a.worked
 
-pub cells_told : (t t' : List ℕ) (q' : Condition) (text : List ℕ) (parts : Parts) (a : Accepted text parts) (g : Graph) → Evaluates (Parsed parts) g t q' t' (Ok tt) → (u v : ℕ) → u < g.entries → v < g.entries → Cell (Lengths g a.expr u v) (whole_cell q' t' u v)
-cells_told t t' q' text parts a g e u v hu hv =
-    subst (λ q. Cell (Lengths g a.expr u v) (whole_cell q t' u v)) (sym e.1)
-    (subst (λ x. Cell (Lengths g x u v) (whole_cell (Evaluated parts g.entries) t' u v)) a.stored.decodes
-    (e.2.cells (length (parts_of parts) - 1) (omega (arith, parts.some)) u v hu hv))
+-- the book has few entries
+pub few_by : (input t t' : List ℕ) (q' : Condition) (n : ℕ) → Asks input t q' t' n → n ≤ 16
+few_by input t t' q' n a =
+    let b = asks_book input t t' q' n a in
+    let few = few_entries (eqb (value_kind (book_file input)) 2) (book_file input) b.0 b.1 in
+    rw b.2 few
+
+-- it tells the cells of the data paths, and chooses paths that join
+module _ (t t' : List ℕ) (q' : Condition) (text : List ℕ) (parts : Parts) (a : Accepted text parts) (g : Graph) (e : Evaluates (Parsed parts) g t q' t' (Ok tt)) (u v : ℕ) (hu : u < g.entries) (hv : v < g.entries) where
+  cells_told : Cell (Lengths g a.expr u v) (whole_cell q' t' u v)
+  cells_told =
+      subst (λ q. Cell (Lengths g a.expr u v) (whole_cell q t' u v)) (sym e.1)
+      (subst (λ x. Cell (Lengths g x u v) (whole_cell (Evaluated parts g.entries) t' u v)) a.stored.decodes
+      (e.2.cells (length (parts_of parts) - 1) (omega (arith, parts.some)) u v hu hv))
+
+  steps_chosen : whole_cell q' t' u v < long → (s : List Step) × (chosen_in q' t' u v ≡ Some s) × Joined g a.expr u v s × (length s ≡ whole_cell q' t' u v)
+  steps_chosen h =
+      subst (λ q. whole_cell q t' u v < long → (s : List Step) × (chosen_in q t' u v ≡ Some s) × Joined g a.expr u v s × (length s ≡ whole_cell q t' u v)) (sym e.1)
+      (subst (λ x. whole_cell (Evaluated parts g.entries) t' u v < long → (s : List Step) × (chosen_in (Evaluated parts g.entries) t' u v ≡ Some s) × Joined g x u v s × (length s ≡ whole_cell (Evaluated parts g.entries) t' u v)) a.stored.decodes
+      (chosen_joins g (parts_of parts) t' parts.formed e.2.cells (length (parts_of parts) - 1) u v (omega (arith, parts.some)) hu hv)) h
+
+  path_leads : whole_cell q' t' u v < long → Joined g a.expr u v (steps_of (chosen_in q' t' u v)) × (length (steps_of (chosen_in q' t' u v)) ≡ whole_cell q' t' u v)
+  path_leads h = let s = steps_chosen h in rw s.1 (s.2, s.3)
+
+-- no cell is altered
+pub unaltered_by : (input t t' : List ℕ) (q' : Condition) (n : ℕ) → Asks input t q' t' n → Unaltered q' t'
+unaltered_by input t t' q' n a u v hu hv h =
+    let b = asks_book input t t' q' n a in
+    let is : entries_in q' ≡ b.0.entries = ap entries_in b.3.1 in
+    let s = steps_chosen t t' q' (wording input) a.parts a.accepted b.0 b.3 u v (omega (arith, is)) (omega (arith, is)) h in
+    ap is_none s.1
 
 -- a wording that was parsed, and one that was refused
 pub wording_kept : (text : List ℕ) (q q' : Condition) → Parses q text q' (Ok tt) → (parts : Parts) × Accepted text parts × (q' ≡ Parsed parts)
@@ -58,23 +122,31 @@ wording_refused text q q' x p = by_judged p.judged p.parsed p.follows
     by_judged (Ok parts) a f = absurd (cc)
     by_judged (Err y) a f = let e : y ≡ x = cc in subst (WordingRefused text) e a
 
+-- a trace writes the steps that are chosen
+path_traced : (u v : ℕ) (q : Condition) (t : List ℕ) (steps steps' : List Step) (k : ℕ) → Traces q t u v steps steps' (Ok k) → take k steps' ≡ steps_of (chosen_in q t u v)
+path_traced u v q t steps steps' k p = ap (take k) p.2.written ∙ take_at p.2.path _ k p.2.count ∙ ap steps_of (sym p.2.are)
+
 -- the lines, from what was evaluated
-pub listed_by : (input t t' : List ℕ) (q' : Condition) (n : ℕ) (lines : List ℕ) → length t ≡ program_cells → Asks input t q' t' n → lines ≡ listing_text (whole_cell q' t') n → Listed input lines
+pub listed_by : (input t t' : List ℕ) (q' : Condition) (n : ℕ) (lines : List ℕ) → length t ≡ program_cells → Asks input t q' t' n → lines ≡ listing_text (whole_cell q' t') (λ u v. steps_of (chosen_in q' t' u v)) n → Listed input lines
 listed_by input t t' q' n lines z a l =
     let b = asks_book input t t' q' n a in
+    let w : ℕ → ℕ → List Step = λ u v. steps_of (chosen_in q' t' u v) in
     record {
       short = a.short;
-      parts = a.parts;
-      accepted = a.accepted;
+      expr = a.accepted.expr;
+      worded = worded a.accepted;
       graph = b.0;
       book = b.1;
-      room = (t, z, b.3.0);
-      cell = whole_cell q' t';
-      cells = cells_told t t' q' (wording input) a.parts a.accepted b.0 b.3;
-      text = l ∙ ap (listing_text (whole_cell q' t')) b.2;
+      room = has _ _ a.parts b.0 t z (cells_needed a.accepted b.0) b.3.0;
+      path = w;
+      traced = record { parts = a.parts; accepted = a.accepted; query = q'; before = t; cells = t'; evaluates = b.3; traces = λ u v steps steps' k p. path_traced u v q' t' steps steps' k p };
+      listed = lines_told (whole_cell q' t') w b.0 a.accepted.expr
+          (cells_told t t' q' (wording input) a.parts a.accepted b.0 b.3)
+          (path_leads t t' q' (wording input) a.parts a.accepted b.0 b.3)
+          lines (l ∙ ap (listing_text (whole_cell q' t') w) b.2);
     }
 
-pub asked_all : (input text file t t' : List ℕ) (q q₁ q' : Condition) (r : Result ℕ Refusal) → text ≡ wording input → file ≡ book_file input → length input ≤ most_input → Parses q text q₁ (Ok tt) → Worked file q₁ t q' t' r → Asked input t q' t' r
-asked_all input text file t t' q q₁ q' r et ef h p w =
+pub asked_all : (input text file t t' : List ℕ) (q q₁ q' : Condition) (r : Result ℕ Refusal) → length t ≡ program_cells → text ≡ wording input → file ≡ book_file input → length input ≤ most_input → Parses q text q₁ (Ok tt) → Worked file q₁ t q' t' r → Asked input t q' t' r
+asked_all input text file t t' q q₁ q' r z et ef h p w =
     let k = wording_kept text q q₁ p in
-    asked_by input t t' k.0 q' r h (subst (λ x. Accepted x k.0) et k.1) (subst (λ f. Worked f (Parsed k.0) t q' t' r) ef (subst (λ x. Worked file x t q' t' r) k.2 w))
+    asked_by input t t' k.0 q' r z h (subst (λ x. Accepted x k.0) et k.1) (subst (λ f. Worked f (Parsed k.0) t q' t' r) ef (subst (λ x. Worked file x t q' t' r) k.2 w))

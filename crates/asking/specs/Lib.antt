@@ -1,4 +1,6 @@
+pub mod Input
 pub mod Listings
 pub mod Asking
 pub mod Answers
+pub mod Chosen
 pub mod Tells

@@ -1,38 +1,40 @@
 // The program's answer to its input.
-ghost use Rattle.std.specs.Prelude.{◌≡◌, ℕ, IfOk};
-ghost use Rattle.asking.specs.Answers.{answer_text, Answered};
+ghost use Rattle.std.specs.Prelude.{◌≡◌, ℕ};
+ghost use Rattle.asking.specs.Answers.{text_length, Answered};
 
 use crate::ask::ask;
 use crate::evaluated::Evaluated;
-use crate::list::{list, refuse};
+use crate::list::list;
+use crate::room::{MOST_TEXT, ROOM_CELLS};
+use listing::lines::refusal_line;
 use queries::Query;
-use std::alloc::{AllocError, Global};
+use refusals::Refusal;
 
-// The program has room for so many cells.
-const ROOM_CELLS: usize = 4096;
-
-// What the program prints: the lines of an answer, or the line of the refusal.
-#[derive(Debug, Drop)]
+// What the program prints: the lines of an answer, or the line of the refusal. It tells how long the text is, which lies at the front of the caller's buffer.
+#[derive(Debug, Clone, Copy)]
 pub enum Answer {
-    Listed(Vec<u8>),
-    Refused(Vec<u8>),
+    Listed(usize),
+    Refused(usize),
 }
 
 impl Answer {
-    // The text, whichever it is.
-    pub fn text(&self) -> &[u8]
-        ensures { result.now ≡ answer_text self.now }
+    // The length of the text, whichever it is.
+    pub fn length(self) -> usize
+        ensures { result ≡ text_length self }
     {
         match self {
-            Answer::Listed(text) | Answer::Refused(text) => text.as_slice(),
+            Answer::Listed(length) | Answer::Refused(length) => length,
         }
     }
 }
 
-// The lines of the answer, or the line of the refusal. No refusal becomes an error, which is left to the allocator.
-pub fn answer_to(heap: Global, input: &[u8]) -> Result<Answer, AllocError>
-    ensures { IfOk result (Answered input.now) }
+// The lines of the answer, or the line of the refusal, at the front of a buffer that has room for any answer. A shorter buffer is refused, which is the only error.
+pub fn answer_to(input: &[u8], text: &mut [u8]) -> Result<Answer, Refusal>
+    ensures { Answered input.now text.old text.new result }
 {
+    if text.len() < MOST_TEXT {
+        return Err(Refusal::TextTooShort);
+    }
     let mut cells = [0; ROOM_CELLS];
     let mut query = Query::new();
     match ask(&mut query, input, &mut cells) {
@@ -42,8 +44,8 @@ pub fn answer_to(heap: Global, input: &[u8]) -> Result<Answer, AllocError>
                 cells: &cells,
                 entries,
             };
-            Ok(Answer::Listed(list(heap, evaluated)?))
+            Ok(Answer::Listed(list(text, evaluated)))
         }
-        Err(refusal) => Ok(Answer::Refused(refuse(heap, refusal)?)),
+        Err(refusal) => Ok(Answer::Refused(refusal_line(refusal, text).unwrap())),
     }
 }

@@ -1,12 +1,13 @@
 // A question asked of the book in the program's input.
 ghost use Rattle.std.specs.Prelude.{◌≡◌, ℕ, length};
-ghost use Rattle.inputs.specs.Input.{program_room};
-ghost use Rattle.asking.specs.Asking.{WorkedAs, Worked, Asked};
+ghost use Rattle.asking.specs.Input.{program_room, program_cells};
+ghost use Rattle.asking.specs.Tells.{WorkedAs, Worked, Asked};
 
+use crate::input::{MOST_INPUT, book_file, holds_days, wording};
+use crate::room::{ROOM_ENTRIES, ROOM_LINKS};
 use files::read::read_book;
 use graphs::book::Book;
 use graphs::link::Link;
-use inputs::{MOST_INPUT, ROOM_ENTRIES, ROOM_LINKS, book_file, holds_days, wording};
 use kinds::day::Day;
 use kinds::kind::{Kind, Payload};
 use kinds::name::Name;
@@ -47,6 +48,7 @@ fn work(query: &mut Query, file: &[u8], cells: &mut [u32]) -> Result<usize, Refu
 
 // Parses the wording in the program's input, evaluates it over the book there, and tells how many entries the book has.
 pub(crate) fn ask(query: &mut Query, input: &[u8], cells: &mut [u32]) -> Result<usize, Refusal>
+    requires { length cells.old ≡ program_cells }
     ensures { Asked input.now cells.old query.new cells.new result }
 {
     if input.len() > MOST_INPUT {

@@ -1,10 +1,14 @@
 // A query that was evaluated, asked about pairs of entries.
-ghost use Rattle.std.specs.Prelude.{◌≡◌, ℕ, ◌<◌, None};
+ghost use Rattle.std.specs.Prelude.{◌≡◌, ℕ, ◌<◌, ◌≤◌, length, Some, None};
+ghost use Rattle.asking.specs.Chosen.{Unaltered};
+ghost use Rattle.asking.specs.declared.room.TheConstants.{ROOM_ENTRIES, ROOM_STEPS};
+ghost use Rattle.languages.specs.Cells.{long};
 ghost use Rattle.queries.specs.Calls.{pair_rows, found_in};
-ghost use Rattle.queries.specs.Conditions.{entries_in, whole_cell};
+ghost use Rattle.queries.specs.Conditions.{entries_in, whole_cell, chosen_in};
 ghost use Rattle.queries.specs.Pairs.{tallied};
 ghost use Rattle.refusals.specs.Rows.{first_refusal};
 
+use languages::step::Step;
 use queries::Query;
 use queries::found::Found;
 
@@ -15,7 +19,9 @@ pub(crate) struct Evaluated<'a> {
     pub cells: &'a [u32],
     pub entries: usize,
     ghost all: { entries ≡ entries_in query.now },
+    ghost few: { entries ≤ ROOM_ENTRIES },
     ghost ready: { first_refusal (pair_rows query.now cells.now None) ≡ None },
+    ghost unaltered: { Unaltered query.now cells.now },
 }
 
 impl Evaluated<'_> {
@@ -26,6 +32,19 @@ impl Evaluated<'_> {
         ensures { result ≡ found_in (whole_cell self.entry.query.now self.entry.cells.now u v) }
     {
         self.query.lookup(self.cells, u, v).unwrap()
+    }
+
+    // A path that joins a pair, in a buffer that has room for it.
+    pub(crate) fn path<'b>(self, u: usize, v: usize, steps: &'b mut [Step]) -> &'b [Step]
+        requires first { u < self.entries }
+        requires second { v < self.entries }
+        requires short { whole_cell self.query.now self.cells.now u v < long }
+        requires room { ROOM_STEPS ≤ length steps.old }
+        ensures chosen { chosen_in self.entry.query.now self.entry.cells.now u v ≡ Some result.now }
+        ensures count { length result.now ≡ whole_cell self.entry.query.now self.entry.cells.now u v }
+    {
+        let count = self.query.trace(self.cells, u, v, steps).unwrap();
+        &steps[..count]
     }
 
     // How many pairs are joined.

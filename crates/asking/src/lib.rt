@@ -4,4 +4,6 @@
 pub mod answer;
 mod ask;
 mod evaluated;
+pub mod input;
 mod list;
+pub mod room;

@@ -1,76 +1,72 @@
-// The lines of an answer.
-ghost use Rattle.std.specs.Prelude.{◌≡◌, ℕ, ◌<◌, ◌≤◌, List, ◌++◌, length, IfOk, OnOk};
-ghost use Rattle.std.specs.Fn.{FnOnceReturnsAtMut};
-ghost use Rattle.listing.specs.Lines.{refusal_line};
-ghost use Rattle.asking.specs.Listings.{pair_text, row_text, listing_text};
-ghost use Rattle.asking.specs.Tells.{told, Makes};
+// The lines of an answer, each made at its place in the text.
+ghost use Rattle.std.specs.Prelude.{◌≡◌, ℕ, ◌<◌, ◌≤◌, ◌+◌, ◌*◌, length};
+ghost use Rattle.listing.specs.Lines.{Laid};
+ghost use Rattle.listing.specs.Puts.{Put};
+ghost use Rattle.queries.specs.Calls.{found_in};
+ghost use Rattle.asking.specs.Input.{most_text};
+ghost use Rattle.asking.specs.Tells.{told, led, pair_text, row_text, listing_text};
 
 use crate::evaluated::Evaluated;
-use inputs::LINE;
-use listing::lines::{first_line, long_line, pair_line, refusal_line};
+use crate::room::{LINE, ROOM_STEPS};
+use languages::step::Step;
+use listing::lines::{first_line, long_line, pair_line};
 use queries::found::Found;
-use refusals::Refusal;
-use std::alloc::{AllocError, Global};
 
-// Puts a line behind a text. The closure makes it in a buffer in which it fits, so it is not refused.
-fn put_line<F: FnOnce(&mut [u8]) -> Result<usize, Refusal>>(
-    text: &mut Vec<u8>,
-    make: F,
-) -> Result<(), AllocError>
-    requires callable { F.IsAlwaysCallable make }
-    requires fits { (line : List ℕ) × Makes (FnOnceReturnsAtMut F.FnOnce make) line }
-    ensures { (line : List ℕ) → Makes (FnOnceReturnsAtMut F.FnOnce make) line → OnOk result (text.new.items ≡ text.old.items ++ line) }
+// Puts the line of a pair at a place of a text, where a path joins the pair, and tells where it ends.
+fn put_pair(
+    text: &mut [u8],
+    at: usize,
+    evaluated: Evaluated,
+    u: usize,
+    v: usize,
+    steps: &mut [Step],
+) -> usize
+    requires first { u < evaluated.entries }
+    requires second { v < evaluated.entries }
+    requires path { ROOM_STEPS ≤ length steps.old }
+    requires room { at + LINE ≤ length text.old }
+    ensures put { Put (pair_text u v (led evaluated.entry u v) (found_in (told evaluated.entry u v))) at result text.old text.new }
+    ensures short { result ≤ at + LINE }
 {
-    let mut line = [0; LINE];
-    let length = make(&mut line).unwrap();
-    text.extend_from_slice(&line[..length])
-}
-
-// Puts the line of a pair behind a text, where a path joins the pair.
-fn put_pair(text: &mut Vec<u8>, u: usize, v: usize, found: Found) -> Result<(), AllocError>
-    ensures { OnOk result (text.new.items ≡ text.old.items ++ pair_text u v found) }
-{
-    match found {
-        Found::Steps(steps) => {
-            let steps = steps as usize;
-            put_line(text, |line| pair_line(u, v, steps, line))
+    match evaluated.found(u, v) {
+        Found::Steps(count) => {
+            let path = evaluated.path(u, v, steps);
+            at + pair_line(u, v, count as usize, path, &mut text[at..]).unwrap()
         }
-        Found::Long => put_line(text, |line| long_line(u, v, line)),
-        Found::Absent => Ok(()),
+        Found::Long => at + long_line(u, v, &mut text[at..]).unwrap(),
+        Found::Absent => at,
     }
 }
 
-// Puts the lines of the pairs with one first entry behind a text.
-fn put_row(text: &mut Vec<u8>, evaluated: Evaluated, u: usize) -> Result<(), AllocError>
-    requires { u < evaluated.entries }
-    ensures { OnOk result (text.new.items ≡ text.old.items ++ row_text (told evaluated.entry) u evaluated.entry.entries) }
+// Puts the lines of the pairs with one first entry at a place of a text, and tells where they end.
+fn put_row(text: &mut [u8], at: usize, evaluated: Evaluated, u: usize, steps: &mut [Step]) -> usize
+    requires first { u < evaluated.entries }
+    requires path { ROOM_STEPS ≤ length steps.old }
+    requires room { at + LINE * evaluated.entries ≤ length text.old }
+    ensures put { Put (row_text (told evaluated.entry) (led evaluated.entry) u evaluated.entry.entries) at result text.old text.new }
+    ensures short { result ≤ at + LINE * evaluated.entry.entries }
 {
+    let mut end = at;
     // An entry is known by its number.
     for v in 0..evaluated.entries {
-        put_pair(text, u, v, evaluated.found(u, v))?;
+        end = put_pair(text, end, evaluated, u, v, steps);
     }
-    Ok(())
+    end
 }
 
-// The first line, and the lines of all pairs.
-pub(crate) fn list(heap: Global, evaluated: Evaluated) -> Result<Vec<u8>, AllocError>
-    ensures { IfOk result (λ text. text.items ≡ listing_text (told evaluated.entry) evaluated.entry.entries) }
+// Puts the first line, and the lines of all pairs, at the front of a text, and tells where they end.
+pub(crate) fn list(text: &mut [u8], evaluated: Evaluated) -> usize
+    requires { most_text ≤ length text.old }
+    ensures { Laid (listing_text (told evaluated.entry) (led evaluated.entry) evaluated.entry.entries) text.old text.new result }
 {
-    let mut text = Vec::new(heap);
-    let pairs = evaluated.tally();
-    put_line(&mut text, |line| first_line(evaluated.entries, pairs, line))?;
+    let mut steps = [Step {
+        letter: 0,
+        entry: 0,
+    }; ROOM_STEPS];
+    let mut end = first_line(evaluated.entries, evaluated.tally(), text).unwrap();
     // By number, as in `put_row`.
     for u in 0..evaluated.entries {
-        put_row(&mut text, evaluated, u)?;
+        end = put_row(text, end, evaluated, u, &mut steps);
     }
-    Ok(text)
-}
-
-// The line of a refusal.
-pub(crate) fn refuse(heap: Global, refusal: Refusal) -> Result<Vec<u8>, AllocError>
-    ensures { IfOk result (λ text. text.items ≡ refusal_line refusal) }
-{
-    let mut text = Vec::new(heap);
-    put_line(&mut text, |line| refusal_line(refusal, line))?;
-    Ok(text)
+    end
 }

@@ -2,6 +2,7 @@
 #![tactic(auto)]
 
 use asking::answer::{Answer, answer_to};
+use asking::room::MOST_TEXT;
 use kinds::calendar::Calendar;
 use kinds::day::Day;
 use std::alloc::Global;
@@ -13,10 +14,15 @@ const ALL_SOULS: &[u8] =
 // Whether this text is what `answer_to` makes of this input, accepted just where it is an answer.
 #[cfg(test)]
 fn answers(heap: Global, input: &[u8], text: &[u8]) -> bool {
-    match answer_to(heap, input) {
+    let Ok(mut buffer) = vec![in heap; 0; MOST_TEXT] else {
+        return false;
+    };
+    match answer_to(input, &mut buffer) {
         Ok(answer) => {
             let listed = matches!(answer, Answer::Listed(_));
-            answer.text() == text && listed == text.starts_with(b"e")
+            answer.length() == text.len()
+                && buffer.starts_with(text)
+                && listed == text.starts_with(b"e")
         }
         Err(_) => false,
     }
@@ -35,6 +41,8 @@ fn day(calendar: Calendar, year: u16, month: u8, date: u8) -> Day {
 #[cfg(test)]
 mod books;
 #[cfg(test)]
+mod calls;
+#[cfg(test)]
 mod days;
 #[cfg(test)]
 mod questions;
@@ -43,5 +51,7 @@ mod rows;
 pub mod settled;
 #[cfg(test)]
 mod sources;
+#[cfg(test)]
+mod tracing;
 #[cfg(test)]
 mod wordings;

@@ -6,6 +6,7 @@ use graphs::link::Link;
 use graphs::sheet::Sheet;
 use kinds::calendar::Calendar;
 use kinds::day::Day;
+use languages::step::Step;
 use queries::Query;
 use queries::found::Found;
 use refusals::Refusal;
@@ -24,17 +25,35 @@ fn asked(heap: Global, wording: &[u8], text: &[u8]) -> Result<bool, AllocError> 
 #[test]
 fn all_souls(rt: HostRuntime) -> Result<(), Fail> {
     let heap = rt.alloc();
-    assert!(rt; asked(heap, b"(c+)~", b"entries 4 pairs 3\n0 2 2\n1 2 1\n2 3 1\n")?);
-    assert!(rt; asked(heap, b"(c+)=", b"entries 4 pairs 3\n0 1 1\n0 3 3\n1 3 2\n")?);
-    assert!(rt; asked(heap, b"(c=)+", b"entries 4 pairs 1\n0 1 1\n")?);
-    assert!(rt; asked(heap, b"((c+)~c)=", b"entries 4 pairs 2\n0 3 3\n1 3 2\n")?);
-    assert!(rt; asked(heap, b"c=|p", b"entries 4 pairs 2\n0 1 1\n0 3 1\n")?);
+    assert!(rt;
+        asked(
+            heap,
+            b"(c+)~",
+            b"entries 4 pairs 3\n0 2 2 0c1c2\n1 2 1 1c2\n2 3 1 2c3\n"
+        )?
+    );
+    assert!(rt;
+        asked(
+            heap,
+            b"(c+)=",
+            b"entries 4 pairs 3\n0 1 1 0c1\n0 3 3 0c1c2c3\n1 3 2 1c2c3\n"
+        )?
+    );
+    assert!(rt; asked(heap, b"(c=)+", b"entries 4 pairs 1\n0 1 1 0c1\n")?);
+    assert!(rt;
+        asked(
+            heap,
+            b"((c+)~c)=",
+            b"entries 4 pairs 2\n0 3 3 0c1c2c3\n1 3 2 1c2c3\n"
+        )?
+    );
+    assert!(rt; asked(heap, b"c=|p", b"entries 4 pairs 2\n0 1 1 0c1\n0 3 1 0p3\n")?);
     assert!(rt; asked(heap, b"0~", b"entries 4 pairs 0\n")?);
     assert!(rt;
         asked(
             heap,
             b"c*",
-            b"entries 4 pairs 10\n0 0 0\n0 1 1\n0 2 2\n0 3 3\n1 1 0\n1 2 1\n1 3 2\n2 2 0\n2 3 1\n3 3 0\n",
+            b"entries 4 pairs 10\n0 0 0 0\n0 1 1 0c1\n0 2 2 0c1c2\n0 3 3 0c1c2c3\n1 1 0 1\n1 2 1 1c2\n1 3 2 1c2c3\n2 2 0 2\n2 3 1 2c3\n3 3 0 3\n",
         )?
     );
     Ok(())
@@ -93,6 +112,23 @@ fn long_way_round(rt: HostRuntime) -> Result<(), Fail> {
     assert_eq!(rt; query.lookup(&table, 0, 117), Ok(Found::Steps(992)));
     assert_eq!(rt; query.lookup(&table, 0, 0), Ok(Found::Long));
     assert_eq!(rt; query.tally(&table), Ok(15625));
+    let mut steps = [Step {
+        letter: b'x',
+        entry: 9,
+    }; 999];
+    assert_eq!(rt; query.trace(&table, 0, 117, &mut steps), Ok(992));
+    assert_eq!(rt;
+        steps[991],
+        Step {
+            letter: b'a',
+            entry: 117,
+        }
+    );
+    assert_eq!(rt; steps[992].entry, 9);
+    assert_eq!(rt;
+        query.trace(&table, 0, 0, &mut steps),
+        Err(Refusal::OnlyLongPaths)
+    );
     Ok(())
 }
 
@@ -214,6 +250,18 @@ fn longest_names(rt: HostRuntime) {
     assert!(rt; answers(rt.alloc(), &input[0..141], b"refused 13 at 6\n"));
     input[8] = 0;
     assert!(rt; answers(rt.alloc(), &input[0..12], b"refused 13 at 6\n"));
+}
+
+// Christmas by both calendars, the second copied from the first.
+#[test]
+fn christmas(rt: HostRuntime) {
+    assert!(rt;
+        answers(
+            rt.alloc(),
+            b"c=|c*~\n\x02\x00\x01\x00\x02\x00\x05\x00\x02\x00\x01\xe7\x07\x0c\x19\x05\x00\x02\x00\x00\xe8\x07\x01\x07\x05\x00\x02\x00\x00\xe8\x07\x01\x08\x03\x00\x03\x00\x00c\x01\x03\x00\x03\x00\x01c\x02",
+            b"entries 3 pairs 3\n0 1 1 0c1\n0 2 2 0c1c2\n1 2 1 1c2\n",
+        )
+    );
 }
 
 #[test]

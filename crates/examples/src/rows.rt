@@ -1,9 +1,11 @@
 // Refusals of inputs, files, books and lines, met with their places.
 use crate::{ALL_SOULS, answers};
+use asking::answer::answer_to;
 use files::read::read_book;
 use files::write::write_book;
 use graphs::link::Link;
 use kinds::name::Name;
+use languages::step::Step;
 use listing::lines::{first_line, long_line, pair_line, refusal_line};
 use refusals::Refusal;
 
@@ -24,6 +26,15 @@ fn input(rt: HostRuntime) {
     assert!(rt; answers(rt.alloc(), &[b'c'; 8192], b"refused 23 at 0\n"));
     assert!(rt; answers(rt.alloc(), b"", b"refused 21 at 0\n"));
     assert!(rt; answers(rt.alloc(), b"c", b"refused 11 at 0\n"));
+}
+
+// A buffer that is shorter than the longest answer is refused, even where the answer is short.
+#[test]
+fn short_text(rt: HostRuntime) {
+    let mut text = [7; 64];
+    let answer = answer_to(b"c", &mut text);
+    assert!(rt; matches!(answer, Err(Refusal::TextTooShort)));
+    assert!(rt; text == [7; 64]);
 }
 
 #[test]
@@ -222,10 +233,6 @@ fn lines(rt: HostRuntime) {
         first_line(4, 3, &mut out[0..17]),
         Err(Refusal::TextTooShort)
     );
-    assert_eq!(rt;
-        pair_line(10, 2, 999, &mut out[0..8]),
-        Err(Refusal::TextTooShort)
-    );
     assert_eq!(rt; long_line(0, 2, &mut out[0..8]), Err(Refusal::TextTooShort));
     assert_eq!(rt;
         refusal_line(Refusal::LengthUnfit { at: 6 }, &mut out[0..15]),
@@ -240,8 +247,30 @@ fn lines(rt: HostRuntime) {
     assert!(rt; &out[0..16] == b"refused 72 at 0\n".as_slice());
     assert_eq!(rt; first_line(4, 3, &mut out), Ok(18));
     assert!(rt; &out[0..18] == b"entries 4 pairs 3\n".as_slice());
-    assert_eq!(rt; pair_line(10, 2, 999, &mut out), Ok(9));
-    assert!(rt; &out[0..9] == b"10 2 999\n".as_slice());
     assert_eq!(rt; long_line(0, 2, &mut out), Ok(9));
     assert!(rt; &out[0..9] == b"0 2 long\n".as_slice());
+}
+
+#[test]
+fn pair_lines(rt: HostRuntime) {
+    let mut out = [7; 16];
+    let path = [
+        Step {
+            letter: b'c',
+            entry: 1,
+        },
+        Step {
+            letter: 255,
+            entry: 10,
+        },
+    ];
+    assert_eq!(rt;
+        pair_line(0, 10, 2, &path, &mut out[0..13]),
+        Err(Refusal::TextTooShort)
+    );
+    assert!(rt; out == [7; 16]);
+    assert_eq!(rt; pair_line(0, 10, 2, &path, &mut out[0..14]), Ok(14));
+    assert!(rt; &out[0..16] == b"0 10 2 0c1\xff10\n\x07\x07".as_slice());
+    assert_eq!(rt; pair_line(10, 2, 999, &[], &mut out), Ok(12));
+    assert!(rt; &out[0..12] == b"10 2 999 10\n".as_slice());
 }

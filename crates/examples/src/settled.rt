@@ -7,5 +7,5 @@ pub fn settled_examples() -> usize
     ensures counted { result ≡ length table }
     ensures settled { Settled }
 {
-    3
+    14
 }

@@ -23,6 +23,12 @@ pub record Fails (t : List ℕ) (at : ℕ) : Type 0 where
   pub begins : Begins (take at t)
   pub longest : (k : ℕ) → at < k → k ≤ length t → Begins (take k t) → ⊥
 
+-- a wording is that of an expression, and both keep the limits
+pub record Worded (t : List ℕ) (e : Expr) : Type 0 where
+  pub means : Means t e
+  pub short : length t ≤ most_bytes
+  pub few : size e ≤ most_parts
+
 -- a wording is accepted: it stands for one expression, it and the expression keep the limits, and the expression is stored
 pub record Accepted (t : List ℕ) (parts : Parts) : Type 0 where
   pub expr : Expr

@@ -1,3 +1,4 @@
 pub mod CellLaws
 pub mod Vias
 pub mod Walks
+pub mod Evaluation

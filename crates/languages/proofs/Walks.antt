@@ -23,7 +23,7 @@ pub path_join : (g : Graph) (u m v : ℕ) (s t : List Step) → Path g u s m →
 path_join g u m v [] t p q = subst (λ (x : ℕ). Path g x t v) (sym p.1) q
 path_join g u m v (x ∷ s) t p q = (p.0, p.1, path_join g x.entry m v s t p.2 q)
 
-path_cut : (g : Graph) (u v : ℕ) (s t : List Step) → Path g u (s ++ t) v → Path g u s (end u s) × Path g (end u s) t v
+pub path_cut : (g : Graph) (u v : ℕ) (s t : List Step) → Path g u (s ++ t) v → Path g u s (end u s) × Path g (end u s) t v
 path_cut g u v [] t p = ((path_start g u v t p, refl), p)
 path_cut g u v (x ∷ s) t p = let c = path_cut g x.entry v s t p.2 in ((p.0, p.1, c.0), c.1)
 

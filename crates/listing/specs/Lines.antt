@@ -1,5 +1,6 @@
 -- The texts of the lines, and what the making of a line answers and leaves in memory. Assumes nothing.
-use Rattle.std.specs.Prelude.{◌≡◌, ℕ, List, [], ◌∷◌, ◌++◌, length, take, drop, Some, None, Ok, Err, codes, decimal, Result, nat_lt}
+use Rattle.std.specs.Prelude.{◌≡◌, ℕ, List, [], ◌∷◌, ◌++◌, length, take, drop, flat_map, Some, None, Ok, Err, codes, decimal, Result, nat_lt}
+use Rattle.languages.specs.declared.step.Step.{Step}
 use Rattle.refusals.specs.Rows.{Row, first_refusal}
 use Rattle.refusals.specs.Table.{refusal_text}
 use Rattle.refusals.specs.declared.Refusal.{Refusal}
@@ -17,9 +18,13 @@ refusal_line x = refusal_text x ++ newline
 abbrev pub first_line : ℕ → ℕ → List ℕ
 first_line entries pairs = codes "entries " ++ decimal entries ++ codes " pairs " ++ decimal pairs ++ newline
 
--- 0 2 2
-abbrev pub pair_line : ℕ → ℕ → ℕ → List ℕ
-pair_line u v steps = decimal u ++ codes " " ++ decimal v ++ codes " " ++ decimal steps ++ newline
+-- c1: the letter of a step, and the entry that it leads to
+abbrev pub step_text : Step → List ℕ
+step_text step = step.letter ∷ decimal step.entry
+
+-- 0 2 2 0c1c2: behind the numbers the path, from its first entry on
+abbrev pub pair_line : ℕ → ℕ → ℕ → List Step → List ℕ
+pair_line u v count path = decimal u ++ codes " " ++ decimal v ++ codes " " ++ decimal count ++ codes " " ++ decimal u ++ flat_map step_text path ++ newline
 
 -- 0 2 long
 abbrev pub long_line : ℕ → ℕ → List ℕ

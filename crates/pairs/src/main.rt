@@ -3,7 +3,8 @@
 
 use anyhow::anyhow;
 use asking::answer::{Answer, answer_to};
-use inputs::MOST_INPUT;
+use asking::input::MOST_INPUT;
+use asking::room::MOST_TEXT;
 use std::io::{Read, Write};
 
 // A refusal ends the program with status 1, so that no script takes it for an answer.
@@ -12,8 +13,10 @@ fn main(rt: HostRuntime) -> anyhow::Result<()> {
     rt.stdin()
         .take(MOST_INPUT as u64 + 1)
         .read_to_end(&mut input)?;
-    let answer = answer_to(rt.alloc(), &input)?;
-    rt.stdout().write_all(answer.text())?;
+    let mut buffer = vec![in rt.alloc(); 0; MOST_TEXT]?;
+    let text = buffer.as_mut_slice();
+    let answer = answer_to(&input, text).unwrap();
+    rt.stdout().write_all(&text[..answer.length()])?;
     match answer {
         Answer::Listed(_) => Ok(()),
         Answer::Refused(_) => Err(anyhow!("refused")),

@@ -1,3 +1,5 @@
 pub mod Sums
 pub mod Firsts
+pub mod Tracing
 pub mod Meaning
+pub mod Listing

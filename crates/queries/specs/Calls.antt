@@ -1,18 +1,20 @@
 -- What each call of a query answers and leaves, on all inputs. Assumes nothing.
-use Rattle.std.specs.Prelude.{◌≡◌, ℕ, Bool, false, cond, not, ◌||◌, List, [], ◌∷◌, length, Some, None, Ok, Err, Option, Result, ◌==◌, nat_le, nat_lt}
+use Rattle.std.specs.Prelude.{◌≡◌, ℕ, Bool, false, cond, not, ◌||◌, List, [], ◌∷◌, ◌++◌, length, Some, None, Ok, Err, Option, Result, ◌==◌, nat_le, nat_lt, is_none}
 use Rattle.expressions.specs.Wordings as wordings
 use Rattle.expressions.specs.declared.part.Parts.{Parts}
 use Rattle.graphs.specs.Graphs.{Graph}
 use Rattle.languages.specs.Cells.{long}
+use Rattle.languages.specs.declared.step.Step.{Step}
 use Rattle.refusals.specs.Rows.{Row, first_refusal, ByRows}
 use Rattle.refusals.specs.declared.Refusal.{Refusal}
-use Rattle.refusals.specs.declared.Refusal.TheVariants.{QueryBlank, SourceTooLarge, TableTooShort, NotEvaluated, NoSuchEntry, TableCut}
+use Rattle.refusals.specs.declared.Refusal.TheVariants.{QueryBlank, SourceTooLarge, TableTooShort, NotEvaluated, NoSuchEntry, TableCut, NoPath, OnlyLongPaths, StepsTooShort, TableAltered}
 use Rattle.tables.specs.Tables.{block_at, Filled}
+use Rattle.traces.specs.Choosing.{Taken}
 use Rattle.queries.specs.declared.condition.Condition.{Condition}
 use Rattle.queries.specs.declared.condition.Condition.TheVariants.{Parsed}
 use Rattle.queries.specs.declared.found.Found.{Found}
 use Rattle.queries.specs.declared.found.Found.TheVariants.{Steps, Long, Absent}
-use Rattle.queries.specs.Conditions.{is_blank, is_evaluated, list_in, count_in, entries_in, evaluated, whole_cell}
+use Rattle.queries.specs.Conditions.{is_blank, is_evaluated, list_in, count_in, entries_in, evaluated, whole_cell, chosen_in}
 use Rattle.queries.specs.Pairs.{After, First, Near, tallied}
 
 -- a source has at most so many entries
@@ -72,3 +74,18 @@ Nexts q table given r = ByRows (pair_rows q table given) r (First (After given) 
 -- a tally: the number of such pairs
 abbrev pub Tallies : Condition → List ℕ → Result ℕ Refusal → Type 0
 Tallies q table r = ByRows (pair_rows q table None) r (λ k. k ≡ tallied (whole_cell q table) (entries_in q) (entries_in q))
+
+-- the rows that a trace is held to: those of a lookup, then what the cell tells, the room for the steps, and the cells that choose them
+abbrev pub trace_rows : Condition → List ℕ → ℕ → ℕ → ℕ → List Row
+trace_rows q table u v room =
+    pair_rows q table (Some (u, v))
+    ++ ((nat_lt long (whole_cell q table u v), NoPath)
+    ∷ (whole_cell q table u v == long, OnlyLongPaths)
+    ∷ (nat_lt room (whole_cell q table u v), StepsTooShort)
+    ∷ (is_none (chosen_in q table u v), TableAltered)
+    ∷ [])
+
+-- a trace: the steps that are chosen, as many as the cell of the whole tells, stand at the front, and what lies behind them is as it was; a refused one changes nothing
+abbrev pub Traces : Condition → List ℕ → ℕ → ℕ → List Step → List Step → Result ℕ Refusal → Type 0
+Traces q table u v steps steps' (Ok k) = (first_refusal (trace_rows q table u v (length steps)) ≡ None) × (k ≡ whole_cell q table u v) × Taken (chosen_in q table u v) k steps steps'
+Traces q table u v steps steps' (Err x) = (first_refusal (trace_rows q table u v (length steps)) ≡ Some x) × (steps' ≡ steps)

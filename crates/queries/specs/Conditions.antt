@@ -1,11 +1,13 @@
 -- What the condition of a query tells. Assumes nothing.
-use Rattle.std.specs.Prelude.{◌≡◌, ℕ, ◌-◌, ◌*◌, ◌<◌, ◌≤◌, Bool, true, false, List, [], length}
+use Rattle.std.specs.Prelude.{ℕ, ◌-◌, Bool, true, false, List, [], length, Option}
 use Rattle.expressions.specs.Exprs.{Expr}
 use Rattle.expressions.specs.Numbering.{part_expr}
 use Rattle.expressions.specs.Storing.{parts_of}
 use Rattle.expressions.specs.declared.part.Part.{Part}
+use Rattle.languages.specs.declared.step.Step.{Step}
 use Rattle.tables.specs.Blocks.{cell}
 use Rattle.tables.specs.Tables.{block_at}
+use Rattle.traces.specs.Choosing.{chosen}
 use Rattle.queries.specs.declared.condition.Condition.{Condition}
 use Rattle.queries.specs.declared.condition.Condition.TheVariants.{Blank, Parsed, Evaluated}
 
@@ -48,8 +50,6 @@ expr_in q = part_expr (list_in q) (count_in q - 1)
 abbrev pub whole_cell : Condition → List ℕ → ℕ → ℕ → ℕ
 whole_cell q table u v = cell table (block_at (entries_in q) (count_in q - 1)) (entries_in q) u v
 
--- the cells of the last of p parts, row by row, in a table that has those of all
-pub record Whole (n p : ℕ) (table block : List ℕ) : Type 0 where
-  pub room : block_at n p ≤ length table
-  pub size : length block ≡ n * n
-  pub cells : (u v : ℕ) → u < n → v < n → cell block 0 n u v ≡ cell table (block_at n (p - 1)) n u v
+-- the steps that the cells choose for the whole expression, or none where they are altered
+abbrev pub chosen_in : Condition → List ℕ → ℕ → ℕ → Option (List Step)
+chosen_in q table u v = chosen (list_in q) table (entries_in q) (count_in q - 1) u v

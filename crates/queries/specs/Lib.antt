@@ -2,3 +2,4 @@ pub mod Conditions
 pub mod Pairs
 pub mod Calls
 pub mod Meanings
+pub mod Whole

@@ -1,15 +1,18 @@
 -- What the answers of a query mean, by data paths. Assumes nothing.
-use Rattle.std.specs.Prelude.{◌≡◌, ℕ, ◌<◌, ◌≤◌, List, length, Ok, Result}
+use Rattle.std.specs.Prelude.{◌≡◌, ℕ, ◌<◌, ◌≤◌, List, ◌++◌, length, drop, Ok, Err, Result, MatchResult}
+use Rattle.std.specs.List.{All, AllPairs, Contains}
 use Rattle.expressions.specs.Exprs.{Expr}
 use Rattle.graphs.specs.Graphs.{Graph}
 use Rattle.languages.specs.Cells.{long}
 use Rattle.languages.specs.Languages.{Joined}
 use Rattle.languages.specs.declared.step.Step.{Step}
 use Rattle.refusals.specs.declared.Refusal.{Refusal}
+use Rattle.refusals.specs.declared.Refusal.TheVariants.{NoPath, OnlyLongPaths, StepsTooShort}
 use Rattle.queries.specs.declared.condition.Condition.{Condition}
 use Rattle.queries.specs.declared.found.Found.{Found}
 use Rattle.queries.specs.declared.found.Found.TheVariants.{Steps, Long, Absent}
-use Rattle.queries.specs.Calls.{Looks}
+use Rattle.queries.specs.Calls.{Looks, Traces}
+use Rattle.queries.specs.Pairs.{Before}
 
 -- what is found of a pair is so: the count of one data path in the language that joins it, to which every other is at least equal; long where there are such paths, and all have 1,000 steps or more; none where there is none
 abbrev pub Told : Graph → Expr → ℕ → ℕ → Found → Type 0
@@ -17,6 +20,32 @@ Told g e u v (Steps k) = (k < long) × ((s : List Step) × Joined g e u v s × (
 Told g e u v Long = ((s : List Step) × Joined g e u v s) × ((s : List Step) → Joined g e u v s → long ≤ length s)
 Told g e u v Absent = (s : List Step) → Joined g e u v s → ⊥
 
--- every lookup of a pair of entries is accepted, and tells what is so
-abbrev pub Meant : Graph → Expr → Condition → List ℕ → Type 0
-Meant g e q table = (u v : ℕ) (r : Result Found Refusal) → u < g.entries → v < g.entries → Looks q table u v r → (f : Found) × (r ≡ Ok f) × Told g e u v f
+-- some data path in the language joins the pair
+abbrev pub IsJoined : Graph → Expr → ℕ → ℕ → Type 0
+IsJoined g e u v = (s : List Step) × Joined g e u v s
+
+-- all the joined pairs, in their order; so each stands there once
+pub record JoinedPairs (g : Graph) (e : Expr) (pairs : List (ℕ × ℕ)) : Type 0 where
+  pub joined : All (λ pair. IsJoined g e pair.0 pair.1) pairs
+  pub all : (u v : ℕ) → IsJoined g e u v → Contains pairs (u, v)
+  pub ordered : AllPairs (λ earlier later. Before earlier.0 earlier.1 later.0 later.1) pairs
+
+-- the steps of a data path in the language that joins the pair, so many, stand at the front, and what lies behind them is as it was
+pub record Written (g : Graph) (e : Expr) (u v k : ℕ) (steps steps' : List Step) : Type 0 where
+  pub path : List Step
+  pub joins : Joined g e u v path
+  pub count : length path ≡ k
+  pub stands : steps' ≡ path ++ drop k steps
+
+-- what a trace answers where so much is found of its pair: a path of the count, where there is room for it, and else the refusal that is due, with the buffer as it was
+abbrev pub Led : Graph → Expr → ℕ → ℕ → List Step → List Step → Result ℕ Refusal → Found → Type 0
+Led g e u v steps steps' r Absent = (r ≡ Err NoPath) × (steps' ≡ steps)
+Led g e u v steps steps' r Long = (r ≡ Err OnlyLongPaths) × (steps' ≡ steps)
+Led g e u v steps steps' r (Steps k) =
+    MatchResult r (λ j. (k ≤ length steps) × (j ≡ k) × Written g e u v k steps steps')
+    (λ x. (length steps < k) × (x ≡ StepsTooShort) × (steps' ≡ steps))
+
+-- every lookup of a pair of entries is accepted, and tells what is so; and every trace of one goes by what is so
+pub record Meant (g : Graph) (e : Expr) (q : Condition) (table : List ℕ) : Type 0 where
+  pub lookups : (u v : ℕ) (r : Result Found Refusal) → u < g.entries → v < g.entries → Looks q table u v r → (f : Found) × (r ≡ Ok f) × Told g e u v f
+  pub traces : (u v : ℕ) (steps steps' : List Step) (r : Result ℕ Refusal) → u < g.entries → v < g.entries → Traces q table u v steps steps' r → (f : Found) × Told g e u v f × Led g e u v steps steps' r f

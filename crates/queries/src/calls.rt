@@ -1,6 +1,6 @@
 // The calls of a query. Each is matched in place, together with the condition that the query is in.
 ghost use Rattle.std.specs.Prelude.{◌≡◌, ℕ, OnOk};
-ghost use Rattle.queries.specs.Calls.{Parses, Evaluates, Looks, Nexts, Tallies};
+ghost use Rattle.queries.specs.Calls.{Parses, Evaluates, Looks, Nexts, Tallies, Traces};
 ghost use Rattle.queries.specs.Conditions.{expr_in};
 ghost use Rattle.queries.specs.Meanings.{Meant};
 ghost use Rattle.queries.specs.declared.condition.Condition.TheVariants.{Blank};
@@ -12,9 +12,11 @@ use crate::scan::{first_from, tally};
 use crate::whole::{cells_needed, whole_block};
 use expressions::parse::parse;
 use graphs::source::Source;
+use languages::step::Step;
 use refusals::Refusal;
 use tables::cell::MOST_ENTRIES;
 use tables::evaluate::evaluate;
+use traces::trace::trace;
 
 impl Query {
     // A blank query.
@@ -106,6 +108,37 @@ impl Query {
             (&Condition::Evaluated { ref parts, entries }, table) => {
                 let block = whole_block(parts.as_slice(), entries, table)?;
                 Ok(tally(block))
+            }
+            _ => Err(Refusal::NotEvaluated),
+        }
+    }
+
+    // The steps of a shortest path that joins a pair of entries, at the front of the buffer; and how many they are.
+    pub fn trace(
+        &self,
+        table: &[u32],
+        u: usize,
+        v: usize,
+        steps: &mut [Step],
+    ) -> Result<usize, Refusal>
+        ensures { Traces self.now table.now u v steps.old steps.new result }
+    {
+        match (&self.condition, u, v) {
+            (&Condition::Evaluated { ref parts, entries }, u, v) => {
+                if u >= entries || v >= entries {
+                    return Err(Refusal::NoSuchEntry);
+                }
+                let block = whole_block(parts.as_slice(), entries, table)?;
+                match Found::from(block[u * entries + v]) {
+                    Found::Absent => Err(Refusal::NoPath),
+                    Found::Long => Err(Refusal::OnlyLongPaths),
+                    Found::Steps(count) if steps.len() < count as usize => {
+                        Err(Refusal::StepsTooShort)
+                    }
+                    Found::Steps(_) => {
+                        trace(parts, table, entries, u, v, steps).ok_or(Refusal::TableAltered)
+                    }
+                }
             }
             _ => Err(Refusal::NotEvaluated),
         }

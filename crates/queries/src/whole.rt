@@ -1,6 +1,6 @@
 // Where the cells of a whole expression lie in a table.
 ghost use Rattle.std.specs.Prelude.{◌≡◌, ℕ, ◌<◌, ◌≤◌, length, MatchResult};
-ghost use Rattle.queries.specs.Conditions.{Whole};
+ghost use Rattle.queries.specs.Whole.{Whole};
 ghost use Rattle.refusals.specs.declared.Refusal.TheVariants.{TableCut};
 ghost use Rattle.tables.specs.Tables.{block_at};
 

@@ -1,7 +1,7 @@
 -- The number, the place and the text of each refusal. Assumes nothing.
 use Rattle.std.specs.Prelude.{ℕ, List, ◌++◌, codes, decimal}
 use Rattle.refusals.specs.declared.Refusal.{Refusal}
-use Rattle.refusals.specs.declared.Refusal.TheVariants.{InputTooLong, HeadingCut, PayloadCut, RecordMisplaced, OtherValueKind, LengthUnfit, NoSuchDay, LinkUnsound, TooManyEntries, TooManyLinks, SheetOutOfRange, NotAnExpression, TooManyParts, WordingTooLong, QueryBlank, SourceTooLarge, TableTooShort, NotEvaluated, NoSuchEntry, TableCut, TextTooShort, BookUnwritable, BytesTooShort}
+use Rattle.refusals.specs.declared.Refusal.TheVariants.{InputTooLong, HeadingCut, PayloadCut, RecordMisplaced, OtherValueKind, LengthUnfit, NoSuchDay, LinkUnsound, TooManyEntries, TooManyLinks, SheetOutOfRange, NotAnExpression, TooManyParts, WordingTooLong, QueryBlank, SourceTooLarge, TableTooShort, NotEvaluated, NoSuchEntry, TableCut, NoPath, OnlyLongPaths, StepsTooShort, TextTooShort, TableAltered, BookUnwritable, BytesTooShort}
 
 -- the number by which users know a refusal
 abbrev pub number : Refusal → ℕ
@@ -25,7 +25,11 @@ number TableTooShort = 33
 number NotEvaluated = 41
 number NoSuchEntry = 42
 number TableCut = 43
+number NoPath = 44
+number OnlyLongPaths = 45
+number StepsTooShort = 46
 number TextTooShort = 47
+number TableAltered = 49
 number BookUnwritable = 71
 number BytesTooShort = 72
 
@@ -51,7 +55,11 @@ place TableTooShort = 0
 place NotEvaluated = 0
 place NoSuchEntry = 0
 place TableCut = 0
+place NoPath = 0
+place OnlyLongPaths = 0
+place StepsTooShort = 0
 place TextTooShort = 0
+place TableAltered = 0
 place BookUnwritable = 0
 place BytesTooShort = 0
 

@@ -30,7 +30,11 @@ pub enum Refusal {
     NotEvaluated,
     NoSuchEntry,
     TableCut,
+    NoPath,
+    OnlyLongPaths,
+    StepsTooShort,
     TextTooShort,
+    TableAltered,
     BookUnwritable,
     BytesTooShort,
 }
@@ -59,7 +63,11 @@ impl Refusal {
             Refusal::NotEvaluated => 41,
             Refusal::NoSuchEntry => 42,
             Refusal::TableCut => 43,
+            Refusal::NoPath => 44,
+            Refusal::OnlyLongPaths => 45,
+            Refusal::StepsTooShort => 46,
             Refusal::TextTooShort => 47,
+            Refusal::TableAltered => 49,
             Refusal::BookUnwritable => 71,
             Refusal::BytesTooShort => 72,
         }

@@ -14,4 +14,4 @@ returns-in_err-parse c =
     rw (p.1, p.2) (by_wording (omega arith) (subst (λ t. Refused t c.in_err-parse.field-0.0) c.wording.ensures (wording_refused _ _ _ _ c.in_err-parse.ensures)))
 
 pub returns : goal.returns
-returns c = asked_all _ _ _ _ _ _ _ _ _ c.wording.ensures c.book_file.ensures.is (omega arith) c.in_ok-parse.ensures c.work.ensures
+returns c = asked_all _ _ _ _ _ _ _ _ _ c.requires c.wording.ensures c.book_file.ensures.is (omega arith) c.in_ok-parse.ensures c.work.ensures

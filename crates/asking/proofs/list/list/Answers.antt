@@ -1,14 +1,17 @@
-use Rattle.std.proofs.Common.{rules, arith, vec_items}
+use Rattle.std.proofs.Common.{arith}
 use Rattle.listing.specs.Lines.{first_line}
-use Rattle.asking.specs.Tells.{told}
-use Rattle.asking.proofs.Listing.{list_all}
+use Rattle.queries.specs.Pairs.{tallied}
+use Rattle.asking.specs.Tells.{told, led, pairs_text}
+use Rattle.asking.proofs.Listing.{pairs_more}
+use Rattle.asking.proofs.Made.{lines_more}
 use Rattle.asking.proofs.list.list.Goals as goal
 
-pub put_line-requires-clause-fits : goal.put_line-requires-clause-fits
-put_line-requires-clause-fits c = (first_line c.args.evaluated.entries c.tally-pairs.result, λ out out' r w. search (rules, w.met))
-
-pub returns : goal.returns
-returns c =
-    list_all (told c.args.evaluated) c.args.evaluated.entries c.loop-u.u c.tally-pairs.result (vec_items c.new-text.result) (vec_items c.put_line.new.text) (vec_items c.loop-u.text) c.new-text.ensures.items c.tally-pairs.ensures
-    (c.in_ok-put_line.ensures (first_line c.args.evaluated.entries c.tally-pairs.result) (λ out out' r w. search (rules, w.met)))
-    (omega arith) c.loop-u.invariant
+pub loop-u-preserved : goal.loop-u-preserved
+loop-u-preserved c =
+    let d = told c.args.evaluated in
+    let w = led c.args.evaluated in
+    let n = c.args.evaluated.entries in
+    record {
+      put = lines_more (first_line n (tallied d n n)) (pairs_text d w n c.loop-u.u) _ _ _ _ _ _ _ _ (pairs_more d w n c.loop-u.u) c.loop-u.invariant.put c.put_row-end.ensures.put;
+      short = omega (arith, c.loop-u.invariant.short, c.put_row-end.ensures.short, c.args.evaluated.few);
+    }

@@ -1,9 +1,18 @@
-use Rattle.std.proofs.Common.{rules}
-use Rattle.listing.specs.Lines.{pair_line, long_line}
+use Rattle.std.proofs.Common.{rules, ◌≡◌, ap, arith}
+use Rattle.queries.specs.Calls.{found_in}
+use Rattle.queries.specs.declared.found.Found.TheVariants.{Steps, Long}
+use Rattle.asking.specs.Chosen.{steps_of}
+use Rattle.asking.specs.Tells.{told, led}
+use Rattle.asking.proofs.Made.{made_behind}
 use Rattle.asking.proofs.list.put_pair.Goals as goal
 
-pub put_line-requires-clause-fits : goal.put_line-requires-clause-fits
-put_line-requires-clause-fits c = (pair_line c.args.u c.args.v c.in-Steps.steps, λ out out' r w. search (rules, w.met))
+pub returns-in-Steps-clause-put : goal.returns-in-Steps-clause-put
+returns-in-Steps-clause-put c =
+    let found : found_in (told c.args.evaluated c.args.u c.args.v) ≡ Steps c.in-Steps.count = cc in
+    let path : led c.args.evaluated c.args.u c.args.v ≡ c.path-path.result.now = ap steps_of c.path-path.ensures.chosen in
+    rw (found, path) (made_behind _ c.args.text.now _ c.args.at _ c.pair_line.result (omega arith) (search rules) c.pair_line.ensures.lined)
 
-pub put_line-requires-in-Long-clause-fits : goal.put_line-requires-in-Long-clause-fits
-put_line-requires-in-Long-clause-fits c = (long_line c.args.u c.args.v, λ out out' r w. search (rules, w.met))
+pub returns-in-Long-clause-put : goal.returns-in-Long-clause-put
+returns-in-Long-clause-put c =
+    let found : found_in (told c.args.evaluated c.args.u c.args.v) ≡ Long = cc in
+    rw found (made_behind _ c.args.text.now _ c.args.at _ c.long_line.result (omega arith) (search rules) c.long_line.ensures.lined)

@@ -1,7 +1,12 @@
-use Rattle.std.proofs.Common.{◌≡◌, ◌++◌, vec_items}
-use Rattle.asking.specs.Listings.{row_text}
-use Rattle.asking.specs.Tells.{told}
+use Rattle.std.proofs.Common.{◌≤◌, ◌+◌, ◌*◌}
+use Rattle.listing.specs.Puts.{Put}
+use Rattle.asking.specs.declared.room.TheConstants.{LINE}
+use Rattle.asking.specs.Tells.{told, led, row_text}
 use Rattle.asking.proofs.list.put_row.Given as goal
 
 abbrev pub invariant-loop-v : goal.invariant-loop-v
-invariant-loop-v l = vec_items l.text ≡ vec_items l.initial.text ++ row_text (told l.evaluated) l.u l.v
+invariant-loop-v l =
+    record {
+      put : Put (row_text (told l.evaluated) (led l.evaluated) l.u l.v) l.at l.end l.fn.text l.text;
+      short : l.end ≤ l.at + LINE * l.v;
+    }

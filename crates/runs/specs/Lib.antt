@@ -1,0 +1,5 @@
+pub mod Histories
+pub mod Laws
+pub mod Runs
+pub mod Requests
+pub mod Making

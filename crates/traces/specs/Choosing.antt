@@ -1,0 +1,104 @@
+-- How the steps of a path are taken from a table: at each part and pair, what its cell and the cells of the parts before it choose. Assumes nothing.
+use Rattle.std.specs.Prelude.{◌≡◌, ℕ, zero, suc, ◌+◌, ◌-◌, ◌<◌, Bool, cond, ◌&&◌, List, [], ◌∷◌, ◌++◌, length, drop, Some, None, Option, ◌==◌, nat_le, slice_index_or}
+use Rattle.std.specs.Option.{option_or}
+use Rattle.expressions.specs.declared.part.Part.{Part}
+use Rattle.expressions.specs.declared.part.Part.TheVariants.{Epsilon, Letter, Either, Join, Plus, Star, Same, Differ}
+use Rattle.languages.specs.declared.step.Step.{Step}
+use Rattle.tables.specs.Blocks.{cell}
+use Rattle.tables.specs.Tables.{block_at}
+use Rattle.traces.specs.declared.choice.Choice.{Choice}
+use Rattle.traces.specs.declared.choice.Choice.TheVariants.{Stay, Along, Inside, Through}
+
+-- the cell of u and v in the block of part q
+abbrev pub cells : List ℕ → ℕ → ℕ → ℕ → ℕ → ℕ
+cells table n q u v = cell table (block_at n q) n u v
+
+abbrev pub part_at : List Part → ℕ → Part
+part_at parts q = slice_index_or parts q Epsilon
+
+-- the first number below n that passes a test
+abbrev pub first : ℕ → (ℕ → Bool) → Option ℕ
+first zero passes = None
+first (suc n) passes = option_or (first n passes) (cond (passes n) (Some n) None)
+
+-- the steps of one part up to m, which are no fewer than asked, and those of another from m on add up to k
+abbrev pub is_middle : (ℕ → ℕ → ℕ → ℕ) → ℕ → ℕ → ℕ → ℕ → ℕ → ℕ → ℕ → Bool
+is_middle d least left right u v k m = nat_le least (d left u m) && (d left u m + d right m v == k)
+
+-- over a middle, where there is one
+abbrev pub over : ℕ → ℕ → Option ℕ → Option Choice
+over left right None = None
+over left right (Some m) = Some (Through left m right)
+
+-- over the first middle
+abbrev pub through : (ℕ → ℕ → ℕ → ℕ) → ℕ → ℕ → ℕ → ℕ → ℕ → ℕ → ℕ → Option Choice
+through d n least left right u v k = over left right (first n (is_middle d least left right u v k))
+
+-- a part, where its cell is k
+abbrev pub inside : (ℕ → ℕ → ℕ → ℕ) → ℕ → ℕ → ℕ → ℕ → Option Choice
+inside d q u v k = cond (d q u v == k) (Some (Inside q)) None
+
+-- no step, where there is none to take
+abbrev pub stay : ℕ → ℕ → ℕ → Option Choice
+stay u v k = cond ((u == v) && (k == 0)) (Some Stay) None
+
+-- the one step of a letter
+abbrev pub along : ℕ → ℕ → ℕ → Option Choice
+along a v k = cond (k == 1) (Some (Along (record { letter = a; entry = v }))) None
+
+-- one piece of a repeat, or else a piece of at least one step and the repeat from there on
+abbrev pub pieces : (ℕ → ℕ → ℕ → ℕ) → ℕ → ℕ → ℕ → ℕ → ℕ → Option Choice
+pieces d n q u v k = option_or (inside d (q - 1) u v k) (through d n 1 (q - 1) q u v k)
+
+-- what is chosen at part q, which is of the form given, from u to v, for k steps; nothing where the table is altered
+abbrev pub choose : (ℕ → ℕ → ℕ → ℕ) → ℕ → Part → ℕ → ℕ → ℕ → ℕ → Option Choice
+choose d n Epsilon q u v k = stay u v k
+choose d n (Letter a) q u v k = along a v k
+choose d n (Either left) q u v k = option_or (inside d left u v k) (inside d (q - 1) u v k)
+choose d n (Join left) q u v k = through d n 0 left (q - 1) u v k
+choose d n Plus q u v k = pieces d n q u v k
+choose d n Star q u v k = option_or (stay u v k) (pieces d n q u v k)
+choose d n Same q u v k = inside d (q - 1) u v k
+choose d n Differ q u v k = inside d (q - 1) u v k
+
+-- the steps of one path and then those of another
+abbrev pub joined : Option (List Step) → Option (List Step) → Option (List Step)
+joined (Some s) (Some t) = Some (s ++ t)
+joined (Some s) None = None
+joined None found = None
+
+-- the steps that a choice leads to, by those of the parts and pairs that it names
+abbrev pub follow : (ℕ → ℕ → ℕ → Option (List Step)) → ℕ → ℕ → Option Choice → Option (List Step)
+follow go u v None = None
+follow go u v (Some Stay) = Some []
+follow go u v (Some (Along step)) = Some (step ∷ [])
+follow go u v (Some (Inside q)) = go q u v
+follow go u v (Some (Through left m right)) = joined (go left u m) (go right m v)
+
+-- the steps that are taken at part q from u to v, with so much fuel; each choice leads to where the number of the part and the cell add up to less
+abbrev pub taken_within : List Part → (ℕ → ℕ → ℕ → ℕ) → ℕ → ℕ → ℕ → ℕ → ℕ → Option (List Step)
+taken_within parts d n zero q u v = None
+taken_within parts d n (suc fuel) q u v = follow (taken_within parts d n fuel) u v (choose d n (part_at parts q) q u v (d q u v))
+
+-- the steps that are taken at part q from u to v, or none where the table is altered: the fuel suffices
+unfoldable pub chosen : List Part → List ℕ → ℕ → ℕ → ℕ → ℕ → Option (List Step)
+chosen parts table n q u v = taken_within parts (cells table n) n (q + cells table n q u v + 1) q u v
+
+-- the count of the whole expression, which is the last part, and the steps that are taken for it
+abbrev pub whole_count : List Part → List ℕ → ℕ → ℕ → ℕ → ℕ
+whole_count parts table n u v = cells table n (length parts - 1) u v
+
+abbrev pub whole_steps : List Part → List ℕ → ℕ → ℕ → ℕ → Option (List Step)
+whole_steps parts table n u v = chosen parts table n (length parts - 1) u v
+
+-- the fuel does not matter: the steps at a part and a pair are those that the choice there leads to
+abbrev pub ByChoice : List Part → List ℕ → ℕ → Type 0
+ByChoice parts table n =
+    (q u v : ℕ) → q < length parts → chosen parts table n q u v ≡ follow (chosen parts table n) u v (choose (cells table n) n (part_at parts q) q u v (cells table n q u v))
+
+-- steps that are chosen, so many, stand at the front, and what lies behind them is as it was
+pub record Taken (found : Option (List Step)) (k : ℕ) (steps steps' : List Step) : Type 0 where
+  pub path : List Step
+  pub are : found ≡ Some path
+  pub count : length path ≡ k
+  pub written : steps' ≡ path ++ drop k steps

@@ -1,0 +1,6 @@
+// Traces: how the steps of a path are taken from a filled table.
+#![tactic(auto)]
+
+mod blocks;
+mod choice;
+pub mod trace;
