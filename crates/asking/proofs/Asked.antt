@@ -1,10 +1,10 @@
 -- What comes of asking, from what the steps say. Assumes nothing.
-use Rattle.std.proofs.Common.{◌≡◌, ℕ, ◌-◌, ◌*◌, ◌<◌, ◌≤◌, Bool, true, false, eqb, ◌⊎◌, List, length, take, Some, None, Ok, Err, MatchBool, Result, is_none, sym, ap, ◌∙◌, subst, ⊎_elim, arith}
+use Rattle.std.proofs.Common.{◌≡◌, ℕ, ◌*◌, ◌<◌, ◌≤◌, Bool, true, false, eqb, ◌⊎◌, List, length, take, Some, None, Ok, Err, MatchBool, Result, is_none, sym, ap, ◌∙◌, subst, ⊎_elim, arith}
 use Rattle.std.proofs.lemmas.Bool.Decides.{nat_tests}
 use Rattle.std.proofs.lemmas.List.{length-map, take_at}
-use Rattle.expressions.proofs.Numbered.{length-parts}
+use Rattle.expressions.proofs.Judged.{stored_size}
 use Rattle.expressions.specs.Storing.{parts_of}
-use Rattle.expressions.specs.Wordings.{Accepted, Worded, Refused as WordingRefused, Parsed as WordingParsed}
+use Rattle.expressions.specs.Wordings.{Accepted}
 use Rattle.expressions.specs.declared.part.Parts.{Parts}
 use Rattle.files.specs.Reading.{Refused}
 use Rattle.graphs.specs.Graphs.{Graph}
@@ -14,20 +14,20 @@ use Rattle.kinds.specs.Payloads.{Shape}
 use Rattle.languages.specs.Cells.{Cell, Lengths, long}
 use Rattle.languages.specs.Languages.{Joined}
 use Rattle.languages.specs.declared.step.Step.{Step}
-use Rattle.queries.specs.Calls.{evaluate_rows, Follows, Parses, Evaluates, Traces}
+use Rattle.queries.specs.Calls.{evaluate_rows, Parses, Evaluates, Traces}
 use Rattle.queries.specs.Conditions.{entries_in, whole_cell, chosen_in}
 use Rattle.queries.specs.declared.condition.Condition.{Condition}
-use Rattle.queries.specs.declared.condition.Condition.TheVariants.{Parsed, Evaluated}
+use Rattle.queries.specs.declared.condition.Condition.TheVariants.{Parsed}
 use Rattle.refusals.specs.Rows.{first_refusal}
 use Rattle.refusals.specs.declared.Refusal.{Refusal}
 use Rattle.refusals.specs.declared.Refusal.TheVariants.{TableTooShort}
 use Rattle.tables.specs.Tables.{block_at}
-use Rattle.traces.proofs.Joins.{chosen_joins}
+use Rattle.queries.proofs.Meaning.{whole_shown, whole_joins, parse_told}
 use Rattle.asking.specs.Answers.{Listed}
 use Rattle.asking.specs.Input.{most_input, program_room, program_cells, wording, book_file, value_kind}
 use Rattle.asking.specs.Asking.{cells_for, BookOf, BookIn, by_file, by_room}
 use Rattle.asking.specs.Chosen.{Unaltered, steps_of}
-use Rattle.asking.specs.Tells.{WorkedAs, Worked, Asked, Asks, listing_text}
+use Rattle.asking.specs.Tells.{WorkedAs, Worked, Asked, AskedWell, listing_text}
 use Rattle.asking.proofs.Listing.{lines_told}
 
 -- a refusal of the file or of the evaluation, and a book that was evaluated, whichever the kind
@@ -39,12 +39,9 @@ book_of_lem : (b : Bool) (file : List ℕ) (q : Condition) (t : List ℕ) (q' : 
 book_of_lem true file q t q' t' n w = w
 book_of_lem false file q t q' t' n w = w
 
--- an accepted wording is that of its expression, and needs as many cells as the expression
-worded : {t : List ℕ} {parts : Parts} (a : Accepted t parts) → Worded t a.expr
-worded a = record { means = a.means; short = a.short; few = a.few }
-
+-- an accepted wording needs as many cells as its expression
 cells_needed : {t : List ℕ} {parts : Parts} (a : Accepted t parts) (g : Graph) → block_at g.entries (length (parts_of parts)) ≡ cells_for a.expr g
-cells_needed a g = ap (λ p. p * (g.entries * g.entries)) (ap length a.stored.parts ∙ length-parts 0 a.expr)
+cells_needed a g = ap (λ p. p * (g.entries * g.entries)) (stored_size a.stored)
 
 -- a book for which there is room has few entries
 few_of : {V : Type 0} (sh : Shape) (encoded : V → List ℕ) (alike : V → V → Bool) (file : List ℕ) (g : Graph) → BookOf sh encoded alike program_room file g → g.entries ≤ 16
@@ -64,19 +61,19 @@ has p room parts g t z e r = grind (arith, nat_tests)
 pub asked_by : (input t t' : List ℕ) (parts : Parts) (q' : Condition) (r : Result ℕ Refusal) → length t ≡ program_cells → length input ≤ most_input → Accepted (wording input) parts → Worked (book_file input) (Parsed parts) t q' t' r → Asked input t q' t' r
 asked_by input t t' parts q' (Ok n) z h a w = record { short = h; parts = parts; accepted = a; worked = w }
 asked_by input t t' parts q' (Err x) z h a w =
-    ⊎_elim (λ f. by_file h (worded a) f)
+    ⊎_elim (λ f. by_file h a.worded f)
     (λ p.
     let few = few_entries (eqb (value_kind (book_file input)) 2) (book_file input) p.0 p.1 in
     let l = lacks 0 _ _ parts p.0 t x few z (cells_needed a p.0) p.2 in
-    rw l.0 (by_room p.0 h (worded a) p.1 l.1))
+    rw l.0 (by_room p.0 h a.worded p.1 l.1))
     (refusal_of (eqb (value_kind (book_file input)) 2) (book_file input) (Parsed parts) t q' t' x w)
 
 -- what was evaluated over the book
-pub asks_book : (input t t' : List ℕ) (q' : Condition) (n : ℕ) (a : Asks input t q' t' n) → (g : Graph) × BookIn (book_file input) g × (n ≡ g.entries) × Evaluates (Parsed a.parts) g t q' t' (Ok tt)
+pub asks_book : (input t t' : List ℕ) (q' : Condition) (n : ℕ) (a : AskedWell input t q' t' n) → (g : Graph) × BookIn (book_file input) g × (n ≡ g.entries) × Evaluates (Parsed a.parts) g t q' t' (Ok tt)
 asks_book input t t' q' n a = book_of_lem (eqb (value_kind (book_file input)) 2) (book_file input) (Parsed a.parts) t q' t' n a.worked
 
 -- the book has few entries
-pub few_by : (input t t' : List ℕ) (q' : Condition) (n : ℕ) → Asks input t q' t' n → n ≤ 16
+pub few_by : (input t t' : List ℕ) (q' : Condition) (n : ℕ) → AskedWell input t q' t' n → n ≤ 16
 few_by input t t' q' n a =
     let b = asks_book input t t' q' n a in
     let few = few_entries (eqb (value_kind (book_file input)) 2) (book_file input) b.0 b.1 in
@@ -85,56 +82,35 @@ few_by input t t' q' n a =
 -- it tells the cells of the data paths, and chooses paths that join
 module _ (t t' : List ℕ) (q' : Condition) (text : List ℕ) (parts : Parts) (a : Accepted text parts) (g : Graph) (e : Evaluates (Parsed parts) g t q' t' (Ok tt)) (u v : ℕ) (hu : u < g.entries) (hv : v < g.entries) where
   cells_told : Cell (Lengths g a.expr u v) (whole_cell q' t' u v)
-  cells_told =
-      subst (λ q. Cell (Lengths g a.expr u v) (whole_cell q t' u v)) (sym e.1)
-      (subst (λ x. Cell (Lengths g x u v) (whole_cell (Evaluated parts g.entries) t' u v)) a.stored.decodes
-      (e.2.cells (length (parts_of parts) - 1) (omega (arith, parts.some)) u v hu hv))
+  cells_told = rw e.1 (rw a.stored.decodes at (whole_shown g parts t' e.2.cells u v hu hv))
 
   steps_chosen : whole_cell q' t' u v < long → (s : List Step) × (chosen_in q' t' u v ≡ Some s) × Joined g a.expr u v s × (length s ≡ whole_cell q' t' u v)
-  steps_chosen h =
-      subst (λ q. whole_cell q t' u v < long → (s : List Step) × (chosen_in q t' u v ≡ Some s) × Joined g a.expr u v s × (length s ≡ whole_cell q t' u v)) (sym e.1)
-      (subst (λ x. whole_cell (Evaluated parts g.entries) t' u v < long → (s : List Step) × (chosen_in (Evaluated parts g.entries) t' u v ≡ Some s) × Joined g x u v s × (length s ≡ whole_cell (Evaluated parts g.entries) t' u v)) a.stored.decodes
-      (chosen_joins g (parts_of parts) t' parts.formed e.2.cells (length (parts_of parts) - 1) u v (omega (arith, parts.some)) hu hv)) h
+  steps_chosen h = rw e.1 (rw a.stored.decodes at (whole_joins g parts t' e.2.cells u v hu hv (rw e.1 at h)))
 
   path_leads : whole_cell q' t' u v < long → Joined g a.expr u v (steps_of (chosen_in q' t' u v)) × (length (steps_of (chosen_in q' t' u v)) ≡ whole_cell q' t' u v)
   path_leads h = let s = steps_chosen h in rw s.1 (s.2, s.3)
 
 -- no cell is altered
-pub unaltered_by : (input t t' : List ℕ) (q' : Condition) (n : ℕ) → Asks input t q' t' n → Unaltered q' t'
+pub unaltered_by : (input t t' : List ℕ) (q' : Condition) (n : ℕ) → AskedWell input t q' t' n → Unaltered q' t'
 unaltered_by input t t' q' n a u v hu hv h =
     let b = asks_book input t t' q' n a in
     let is : entries_in q' ≡ b.0.entries = ap entries_in b.3.1 in
     let s = steps_chosen t t' q' (wording input) a.parts a.accepted b.0 b.3 u v (omega (arith, is)) (omega (arith, is)) h in
     ap is_none s.1
 
--- a wording that was parsed, and one that was refused
-pub wording_kept : (text : List ℕ) (q q' : Condition) → Parses q text q' (Ok tt) → (parts : Parts) × Accepted text parts × (q' ≡ Parsed parts)
-wording_kept text q q' p = by_judged p.judged p.parsed p.follows
-  where
-    by_judged : (j : Result Parts Refusal) → WordingParsed text j → Follows q j q' (Ok tt) → (parts : Parts) × Accepted text parts × (q' ≡ Parsed parts)
-    by_judged (Ok parts) a f = (parts, a, f.0)
-    by_judged (Err x) a f = absurd (cc)
-
-pub wording_refused : (text : List ℕ) (q q' : Condition) (x : Refusal) → Parses q text q' (Err x) → WordingRefused text x
-wording_refused text q q' x p = by_judged p.judged p.parsed p.follows
-  where
-    by_judged : (j : Result Parts Refusal) → WordingParsed text j → Follows q j q' (Err x) → WordingRefused text x
-    by_judged (Ok parts) a f = absurd (cc)
-    by_judged (Err y) a f = let e : y ≡ x = cc in subst (WordingRefused text) e a
-
 -- a trace writes the steps that are chosen
 path_traced : (u v : ℕ) (q : Condition) (t : List ℕ) (steps steps' : List Step) (k : ℕ) → Traces q t u v steps steps' (Ok k) → take k steps' ≡ steps_of (chosen_in q t u v)
 path_traced u v q t steps steps' k p = ap (take k) p.2.written ∙ take_at p.2.path _ k p.2.count ∙ ap steps_of (sym p.2.are)
 
 -- the lines, from what was evaluated
-pub listed_by : (input t t' : List ℕ) (q' : Condition) (n : ℕ) (lines : List ℕ) → length t ≡ program_cells → Asks input t q' t' n → lines ≡ listing_text (whole_cell q' t') (λ u v. steps_of (chosen_in q' t' u v)) n → Listed input lines
+pub listed_by : (input t t' : List ℕ) (q' : Condition) (n : ℕ) (lines : List ℕ) → length t ≡ program_cells → AskedWell input t q' t' n → lines ≡ listing_text (whole_cell q' t') (λ u v. steps_of (chosen_in q' t' u v)) n → Listed input lines
 listed_by input t t' q' n lines z a l =
     let b = asks_book input t t' q' n a in
     let w : ℕ → ℕ → List Step = λ u v. steps_of (chosen_in q' t' u v) in
     record {
       short = a.short;
       expr = a.accepted.expr;
-      worded = worded a.accepted;
+      worded = a.accepted.worded;
       graph = b.0;
       book = b.1;
       room = has _ _ a.parts b.0 t z (cells_needed a.accepted b.0) b.3.0;
@@ -148,5 +124,5 @@ listed_by input t t' q' n lines z a l =
 
 pub asked_all : (input text file t t' : List ℕ) (q q₁ q' : Condition) (r : Result ℕ Refusal) → length t ≡ program_cells → text ≡ wording input → file ≡ book_file input → length input ≤ most_input → Parses q text q₁ (Ok tt) → Worked file q₁ t q' t' r → Asked input t q' t' r
 asked_all input text file t t' q q₁ q' r z et ef h p w =
-    let k = wording_kept text q q₁ p in
+    let k = parse_told q text q₁ (Ok tt) p in
     asked_by input t t' k.0 q' r z h (subst (λ x. Accepted x k.0) et k.1) (subst (λ f. Worked f (Parsed k.0) t q' t' r) ef (subst (λ x. Worked file x t q' t' r) k.2 w))

@@ -11,7 +11,7 @@ use Rattle.asking.specs.Asking.{BookOf}
 pub book_read : {V : Type 0} (sh : Shape) (encoded : V → List ℕ) (decoded : List ℕ → V) (alike : V → V → Bool) (file : List ℕ) (es es' : List V) (ls ls' : List Link) (n room : Counts) → Held sh encoded decoded file es es' ls ls' n → room_of es ls ≡ room → BookOf sh encoded alike room file (book_of alike (take n.entries es') (take n.links ls'))
 book_read sh encoded decoded alike file es es' ls ls' n room h e = record {
   values = take n.entries es';
-  joins = take n.links ls';
+  links = take n.links ls';
   is = h.file;
   fits = subst (λ r. Fits sh r (raw_book encoded (take n.entries es') (take n.links ls'))) e h.fits;
   graph = refl;

@@ -5,11 +5,12 @@ use Rattle.std.proofs.lemmas.Bool.Decides.{nat_tests}
 use Rattle.std.proofs.lemmas.List.Concat.{flat_map-append}
 use Rattle.expressions.specs.Exprs.{Expr}
 use Rattle.graphs.specs.Graphs.{Graph}
-use Rattle.languages.specs.Cells.{Cell, Lengths, long}
+use Rattle.languages.specs.Algebra.{Cells}
+use Rattle.languages.specs.Cells.{Lengths, long}
 use Rattle.languages.specs.Languages.{Joined}
 use Rattle.languages.specs.declared.step.Step.{Step}
 use Rattle.listing.specs.Lines.{first_line}
-use Rattle.queries.proofs.Listing.{near_in_row, near_pairs, near_counted, joined_within, pairs_listed}
+use Rattle.queries.proofs.Listing.{reached_in_row, reached_pairs, reached_counted, joined_within, pairs_listed}
 use Rattle.queries.proofs.Meaning.{cell_told}
 use Rattle.queries.specs.Calls.{found_in}
 use Rattle.queries.specs.Meanings.{IsJoined, Told}
@@ -33,21 +34,21 @@ module _ (d : ℕ → ℕ → ℕ) (w : ℕ → ℕ → List Step) where
   abbrev lines_of : List (ℕ × ℕ) → List ℕ
   lines_of pairs = flat_map (λ (pair : ℕ × ℕ). line pair.0 pair.1) pairs
 
-  -- the lines are those of the pairs that are near
+  -- the lines are those of the pairs that are reached
   one_text : (x y : ℕ) (b : Bool) → leb (d x y) long ≡ b → line x y ≡ lines_of (cond b ((x, y) ∷ []) [])
   one_text x y true e = sym (append-nil (line x y))
   one_text x y false e = let h = leb-false (d x y) long e in grind (arith, nat_tests)
 
-  row_is : (x y : ℕ) → row_text d w x y ≡ lines_of (near_in_row d x y)
+  row_is : (x y : ℕ) → row_text d w x y ≡ lines_of (reached_in_row d x y)
   row_is x zero = refl
-  row_is x (suc y) = ap₂ (λ (a b : List ℕ). a ++ b) (row_is x y) (one_text x y (leb (d x y) long) refl) ∙ sym (flat_map-append (λ (pair : ℕ × ℕ). line pair.0 pair.1) (near_in_row d x y) _)
+  row_is x (suc y) = ap₂ (λ (a b : List ℕ). a ++ b) (row_is x y) (one_text x y (leb (d x y) long) refl) ∙ sym (flat_map-append (λ (pair : ℕ × ℕ). line pair.0 pair.1) (reached_in_row d x y) _)
 
-  rows_are : (n x : ℕ) → pairs_text d w n x ≡ lines_of (near_pairs d n x)
+  rows_are : (n x : ℕ) → pairs_text d w n x ≡ lines_of (reached_pairs d n x)
   rows_are n zero = refl
-  rows_are n (suc x) = ap₂ (λ (a b : List ℕ). a ++ b) (rows_are n x) (row_is x n) ∙ sym (flat_map-append (λ (pair : ℕ × ℕ). line pair.0 pair.1) (near_pairs d n x) (near_in_row d x n))
+  rows_are n (suc x) = ap₂ (λ (a b : List ℕ). a ++ b) (rows_are n x) (row_is x n) ∙ sym (flat_map-append (λ (pair : ℕ × ℕ). line pair.0 pair.1) (reached_pairs d n x) (reached_in_row d x n))
 
   -- where the cells are those of an expression, and the paths are in its language
-  module _ (g : Graph) (e : Expr) (cells : (u v : ℕ) → u < g.entries → v < g.entries → Cell (Lengths g e u v) (d u v)) (leads : (u v : ℕ) → u < g.entries → v < g.entries → d u v < long → Joined g e u v (w u v) × (length (w u v) ≡ d u v)) where
+  module _ (g : Graph) (e : Expr) (cells : Cells g.entries (Lengths g e) d) (leads : (u v : ℕ) → u < g.entries → v < g.entries → d u v < long → Joined g e u v (w u v) × (length (w u v) ≡ d u v)) where
     line_by : (u v : ℕ) → IsJoined g e u v → (f : Found) → f ≡ found_in (d u v) → Told g e u v f → (d u v < long → Joined g e u v (w u v) × (length (w u v) ≡ d u v)) → LineBy g e u v (w u v) (pair_text u v (w u v) f) f
     line_by u v j (Steps k) is told by = let c : (d u v < long) × (k ≡ d u v) = grind (arith, nat_tests) in let l = by c.0 in (l.0, l.1 ∙ sym c.1, refl)
     line_by u v j Long is told by = refl
@@ -55,12 +56,12 @@ module _ (d : ℕ → ℕ → ℕ) (w : ℕ → ℕ → List Step) where
 
     pub lines_told : (lines : List ℕ) → lines ≡ listing_text d w g.entries → Lines g e w lines
     lines_told lines is = record {
-      pairs = near_pairs d g.entries g.entries;
+      pairs = reached_pairs d g.entries g.entries;
       joined = pairs_listed g e d cells;
       line = line;
       tells = λ u v j.
           let i = joined_within g e u v j in
           let t = cell_told g e u v (d u v) (cells u v i.0 i.1) in
           (found_in (d u v), t, line_by u v j (found_in (d u v)) refl t (leads u v i.0 i.1));
-      text = is ∙ ap₂ (λ (k : ℕ) (t : List ℕ). first_line g.entries k ++ t) (sym (near_counted d g.entries g.entries)) (rows_are g.entries g.entries);
+      text = is ∙ ap₂ (λ (k : ℕ) (t : List ℕ). first_line g.entries k ++ t) (sym (reached_counted d g.entries g.entries)) (rows_are g.entries g.entries);
     }

@@ -22,10 +22,10 @@ cells_for e g = size e * (g.entries * g.entries)
 -- the file is that of some values and links for which there is room, and means this graph
 pub record BookOf {V : Type 0} (sh : Shape) (encoded : V → List ℕ) (alike : V → V → Bool) (room : Counts) (file : List ℕ) (g : Graph) : Type 0 where
   pub values : List V
-  pub joins : List Link
-  pub is : file ≡ encode sh encoded values joins
-  pub fits : Fits sh room (raw_book encoded values joins)
-  pub graph : g ≡ book_of alike values joins
+  pub links : List Link
+  pub is : file ≡ encode sh encoded values links
+  pub fits : Fits sh room (raw_book encoded values links)
+  pub graph : g ≡ book_of alike values links
 
 -- the book in a file: of days where the head says 2, and otherwise of names
 abbrev pub BookIn : List ℕ → Graph → Type 0

@@ -5,7 +5,7 @@ use Rattle.languages.specs.declared.step.Step.{Step}
 use Rattle.queries.specs.Conditions.{entries_in, whole_cell, chosen_in}
 use Rattle.queries.specs.declared.condition.Condition.{Condition}
 
--- no cell of a table is altered: for each pair that a path is told of, its steps are chosen
+-- a table leads to steps: for each pair that a path is told of, its steps are chosen
 abbrev pub Unaltered : Condition → List ℕ → Type 0
 Unaltered q table = (u v : ℕ) → u < entries_in q → v < entries_in q → whole_cell q table u v < long → is_none (chosen_in q table u v) ≡ false
 

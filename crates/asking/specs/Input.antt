@@ -3,6 +3,7 @@ use Rattle.std.specs.Prelude.{ℕ, ◌+◌, ◌*◌, cond, List, length, ◌==�
 use Rattle.std.specs.List.{before_first, after_first}
 use Rattle.files.specs.declared.counts.Counts.{Counts}
 use Rattle.kinds.specs.Payloads.{word}
+use Rattle.listing.specs.Lines.{most_line, most_step}
 
 -- the program takes at most so many bytes
 abbrev pub most_input : ℕ
@@ -12,13 +13,13 @@ most_input = 8192
 abbrev pub program_room : Counts
 program_room = record { entries = 16; links = 256 }
 
--- and for so many cells
+-- the room for cells
 abbrev pub program_cells : ℕ
 program_cells = 4096
 
--- an answer has at most so many bytes: a first line, and at most one for each two of 16 entries, each of at most 128 bytes and 21 for each of 999 steps
+-- an answer has at most so many bytes: a first line, and at most one for each two of 16 entries, each of at most as many bytes as are allowed for a line with a path of 999 steps
 abbrev pub most_text : ℕ
-most_text = (128 + 21 * 999) * (1 + 16 * 16)
+most_text = (most_line + most_step * 999) * (1 + 16 * 16)
 
 -- what stands before the first byte 10; all of it where there is none
 abbrev pub wording : List ℕ → List ℕ

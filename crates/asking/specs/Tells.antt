@@ -62,12 +62,12 @@ abbrev pub Worked : List ℕ → Condition → List ℕ → Condition → List �
 Worked file q t q' t' r = MatchBool (value_kind file == 2) (WorkedAs day_shape day_bytes same_day program_room file q t q' t' r) (WorkedAs name_shape text same_name program_room file q t q' t' r)
 
 -- the wording was accepted and is evaluated over the book
-pub record Asks (input : List ℕ) (t : List ℕ) (q' : Condition) (t' : List ℕ) (n : ℕ) : Type 0 where
+pub record AskedWell (input : List ℕ) (t : List ℕ) (q' : Condition) (t' : List ℕ) (n : ℕ) : Type 0 where
   pub short : length input ≤ most_input
   pub parts : Parts
   pub accepted : Accepted (wording input) parts
   pub worked : Worked (book_file input) (Parsed parts) t q' t' (Ok n)
 
 abbrev pub Asked : List ℕ → List ℕ → Condition → List ℕ → Result ℕ Refusal → Type 0
-Asked input t q' t' (Ok n) = Asks input t q' t' n
+Asked input t q' t' (Ok n) = AskedWell input t q' t' n
 Asked input t q' t' (Err x) = RefusedBy input x

@@ -1,12 +1,13 @@
 // A query that was evaluated, asked about pairs of entries.
 ghost use Rattle.std.specs.Prelude.{◌≡◌, ℕ, ◌<◌, ◌≤◌, length, Some, None};
 ghost use Rattle.asking.specs.Chosen.{Unaltered};
-ghost use Rattle.asking.specs.declared.room.TheConstants.{ROOM_ENTRIES, ROOM_STEPS};
+ghost use Rattle.asking.specs.declared.room.TheConstants.{ROOM_ENTRIES};
 ghost use Rattle.languages.specs.Cells.{long};
 ghost use Rattle.queries.specs.Calls.{pair_rows, found_in};
 ghost use Rattle.queries.specs.Conditions.{entries_in, whole_cell, chosen_in};
 ghost use Rattle.queries.specs.Pairs.{tallied};
 ghost use Rattle.refusals.specs.Rows.{first_refusal};
+ghost use Rattle.tables.specs.declared.cell.TheConstants.{MOST_STEPS};
 
 use languages::step::Step;
 use queries::Query;
@@ -39,7 +40,7 @@ impl Evaluated<'_> {
         requires first { u < self.entries }
         requires second { v < self.entries }
         requires short { whole_cell self.query.now self.cells.now u v < long }
-        requires room { ROOM_STEPS ≤ length steps.old }
+        requires room { MOST_STEPS ≤ length steps.old }
         ensures chosen { chosen_in self.entry.query.now self.entry.cells.now u v ≡ Some result.now }
         ensures count { length result.now ≡ whole_cell self.entry.query.now self.entry.cells.now u v }
     {

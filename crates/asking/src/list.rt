@@ -1,16 +1,17 @@
 // The lines of an answer, each made at its place in the text.
 ghost use Rattle.std.specs.Prelude.{◌≡◌, ℕ, ◌<◌, ◌≤◌, ◌+◌, ◌*◌, length};
 ghost use Rattle.listing.specs.Lines.{Laid};
-ghost use Rattle.listing.specs.Puts.{Put};
+ghost use Rattle.listing.specs.Puts.{PutAt};
 ghost use Rattle.queries.specs.Calls.{found_in};
 ghost use Rattle.asking.specs.Input.{most_text};
 ghost use Rattle.asking.specs.Tells.{told, led, pair_text, row_text, listing_text};
 
 use crate::evaluated::Evaluated;
-use crate::room::{LINE, ROOM_STEPS};
+use crate::room::LINE;
 use languages::step::Step;
 use listing::lines::{first_line, long_line, pair_line};
 use queries::found::Found;
+use tables::cell::MOST_STEPS;
 
 // Puts the line of a pair at a place of a text, where a path joins the pair, and tells where it ends.
 fn put_pair(
@@ -23,9 +24,9 @@ fn put_pair(
 ) -> usize
     requires first { u < evaluated.entries }
     requires second { v < evaluated.entries }
-    requires path { ROOM_STEPS ≤ length steps.old }
+    requires path { MOST_STEPS ≤ length steps.old }
     requires room { at + LINE ≤ length text.old }
-    ensures put { Put (pair_text u v (led evaluated.entry u v) (found_in (told evaluated.entry u v))) at result text.old text.new }
+    ensures put { PutAt (pair_text u v (led evaluated.entry u v) (found_in (told evaluated.entry u v))) at result text.old text.new }
     ensures short { result ≤ at + LINE }
 {
     match evaluated.found(u, v) {
@@ -41,9 +42,9 @@ fn put_pair(
 // Puts the lines of the pairs with one first entry at a place of a text, and tells where they end.
 fn put_row(text: &mut [u8], at: usize, evaluated: Evaluated, u: usize, steps: &mut [Step]) -> usize
     requires first { u < evaluated.entries }
-    requires path { ROOM_STEPS ≤ length steps.old }
+    requires path { MOST_STEPS ≤ length steps.old }
     requires room { at + LINE * evaluated.entries ≤ length text.old }
-    ensures put { Put (row_text (told evaluated.entry) (led evaluated.entry) u evaluated.entry.entries) at result text.old text.new }
+    ensures put { PutAt (row_text (told evaluated.entry) (led evaluated.entry) u evaluated.entry.entries) at result text.old text.new }
     ensures short { result ≤ at + LINE * evaluated.entry.entries }
 {
     let mut end = at;
@@ -62,7 +63,7 @@ pub(crate) fn list(text: &mut [u8], evaluated: Evaluated) -> usize
     let mut steps = [Step {
         letter: 0,
         entry: 0,
-    }; ROOM_STEPS];
+    }; MOST_STEPS];
     let mut end = first_line(evaluated.entries, evaluated.tally(), text).unwrap();
     // By number, as in `put_row`.
     for u in 0..evaluated.entries {

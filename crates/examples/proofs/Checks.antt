@@ -1,5 +1,5 @@
 -- The common check of the settled examples: what it passes holds. Assumes nothing.
-use Rattle.std.proofs.Common.{◌≡◌, ℕ, ◌/◌, ◌%◌, ◌+◌, ◌*◌, Bool, true, false, ◌&&◌, not, eqb, leb, List, [], ◌∷◌, length, Some, refl, ap, arith}
+use Rattle.std.proofs.Common.{◌≡◌, ℕ, ◌/◌, ◌%◌, Bool, true, false, ◌&&◌, not, eqb, leb, List, [], ◌∷◌, length, Some, refl, ap, arith}
 use Rattle.std.proofs.lemmas.Bool.{and_parts, eqb-true, leb-true, not-true, false≢true}
 use Rattle.std.proofs.lemmas.Slice.Eq.{bytes_eq-Decides}
 use Rattle.std.specs.Str.{bytes_eq}
@@ -7,6 +7,7 @@ use Rattle.expressions.proofs.Main.{is_meant, is_wrong}
 use Rattle.expressions.specs.Machine.{Answer, good, bad, go, step, start}
 use Rattle.expressions.specs.Grammar.{most_bytes}
 use Rattle.expressions.specs.Wordings.Refused.{no_expression as refused}
+use Rattle.files.proofs.Records.{word_of}
 use Rattle.files.specs.Encoding.{encode, entry_kind, framed}
 use Rattle.files.specs.Reading.{Refused as FileRefused}
 use Rattle.files.specs.declared.counts.Counts.{Counts}
@@ -44,17 +45,14 @@ day_refused c y m d h room = record {
   before = Some (record { payloads = []; links = [] });
   left = framed entry_kind (calendar_byte c ∷ y % 256 ∷ y / 256 ∷ m ∷ d ∷ []);
   is = refl;
-  fits = record { entries = omega arith; links = omega arith; values = tt; joins = tt };
+  fits = record { entries = omega arith; links = omega arith; values = tt; all_sound = tt };
   more = refl;
   first = rw (not_valid c h) refl;
 }
   where
-    year : y % 256 + 256 * (y / 256) ≡ y
-    year = omega arith
-
     not_valid : (c : Calendar) → exists c y m d ≡ false → valid day_shape (calendar_byte c ∷ y % 256 ∷ y / 256 ∷ m ∷ d ∷ []) ≡ false
-    not_valid Gregorian h = rw year h
-    not_valid Julian h = rw year h
+    not_valid Gregorian h = rw (word_of y) h
+    not_valid Julian h = rw (word_of y) h
 
 abbrev passes : Example → Bool
 passes (no_expression wording at) = leb (length wording) most_bytes && stops_at at (go start wording 0)

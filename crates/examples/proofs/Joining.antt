@@ -1,13 +1,16 @@
 -- When a list of pairs with their counts has just the pairs that an expression joins: a test by cells that are computed. Assumes nothing.
-use Rattle.std.proofs.Common.{◌≡◌, ℕ, ◌+◌, ◌<◌, ◌≤◌, Bool, true, ◌&&◌, cond, eqb, leb, ltb, List, [], ◌∷◌, length, add-one, refl, sym, ◌∙◌, subst, inl, inr, arith}
-use Rattle.std.proofs.lemmas.Bool.{and_parts, le-leb, cond-true, agree_below, agree_below_at, or_cases, false≢true}
+use Rattle.std.proofs.Common.{◌≡◌, ℕ, ◌<◌, Bool, true, ◌&&◌, cond, eqb, leb, ltb, List, sym, ap₂, ◌∙◌, subst, arith}
+use Rattle.std.proofs.lemmas.Bool.{and_parts, le-leb, cond-true, agree_below, agree_below_at}
 use Rattle.std.proofs.lemmas.Bool.Decides.{nat_tests}
+use Rattle.std.proofs.lemmas.List.Elements.{All-weaker, recursion_from_All}
+use Rattle.std.proofs.lemmas.List.Folds.{Any-from_list_any}
+use Rattle.std.proofs.lemmas.List.Sums.{AllPass-from_list_all}
 use Rattle.std.specs.List.{AllByRecursion, Contains, list_all, list_any}
 use Rattle.expressions.specs.Exprs.{Expr}
 use Rattle.graphs.specs.Graphs.{Graph}
 use Rattle.languages.proofs.Evaluation.{cells_of, cells_are}
 use Rattle.languages.specs.Cells.{long}
-use Rattle.queries.proofs.Listing.{joined_within}
+use Rattle.queries.proofs.Listing.{joined_within, joined_reached}
 use Rattle.queries.proofs.Meaning.{cell_told}
 use Rattle.queries.specs.Calls.{found_in}
 use Rattle.queries.specs.Meanings.{Told, IsJoined}
@@ -16,24 +19,19 @@ use Rattle.examples.specs.Settled.{JoinsJust}
 
 -- what every element passes holds of every element
 pub all_hold : {X : Type 0} (Holds : X → Type 0) (passes : X → Bool) → ((x : X) → passes x ≡ true → Holds x) → (xs : List X) → list_all passes xs ≡ true → AllByRecursion Holds xs
-all_hold Holds passes holds [] h = tt
-all_hold Holds passes holds (x ∷ xs) h =
-    let p = and_parts (passes x) (list_all passes xs) h in (holds x p.0, all_hold Holds passes holds xs p.1)
+all_hold Holds passes holds xs h = recursion_from_All Holds xs (All-weaker (λ x. passes x ≡ true) Holds holds xs (AllPass-from_list_all passes xs h))
 
 -- a pair of a list
 abbrev is_pair : ℕ → ℕ → ℕ × ℕ × ℕ → Bool
 is_pair u v pair = eqb pair.0 u && eqb pair.1 v
 
 listed : (u v : ℕ) (pairs : List (ℕ × ℕ × ℕ)) → list_any (is_pair u v) pairs ≡ true → (k : ℕ) × Contains pairs (u, v, k)
-listed u v [] h = absurd (false≢true h)
-listed u v (pair ∷ pairs) h = elim (or_cases (is_pair u v pair) (list_any (is_pair u v) pairs) h) [
-  | inl is ↦ (
-      let a : pair.0 ≡ u = grind (arith, nat_tests) in
-      let b : pair.1 ≡ v = grind (arith, nat_tests) in
-      (pair.2, (0, omega arith, rw (← a, ← b) refl))
-      )
-  | inr later ↦ (let r = listed u v pairs later in (r.0, (r.1.0 + 1, omega (arith, r.1.1), rw add-one r.1.2)))
-]
+listed u v pairs h =
+    let k = Any-from_list_any (is_pair u v) pairs h in
+    let is = k.4 in
+    let a : k.1.0 ≡ u = grind (arith, nat_tests) in
+    let b : k.1.1 ≡ v = grind (arith, nat_tests) in
+    (k.1.2, subst (Contains pairs) (ap₂ (λ (x y : ℕ). (x, y, k.1.2)) a b) (k.0, k.2, k.3))
 
 module _ (g : Graph) (e : Expr) where
   -- the cell of a pair of entries is its count
@@ -61,10 +59,10 @@ module _ (g : Graph) (e : Expr) where
     joined_listed : rows_listed ≡ true → (u v : ℕ) → IsJoined g e u v → list_any (is_pair u v) pairs ≡ true
     joined_listed h u v j =
         let i = joined_within g e u v j in
-        let near : cells_of g e u v ≤ long = omega (arith, (cells_are g e u v i.0 i.1).least (length j.0) (j.0, j.1, refl)) in
+        let reaches = joined_reached g e (cells_of g e) (cells_are g e) u v j in
         let row = agree_below_at row_listed (λ u. true) g.entries u h i.0 in
         let cell = agree_below_at (cell_listed u) (λ v. true) g.entries v row i.1 in
-        sym (cond-true (leb (cells_of g e u v) long) _ _ (le-leb _ _ near)) ∙ cell
+        sym (cond-true (leb (cells_of g e u v) long) _ _ (le-leb _ _ reaches)) ∙ cell
 
     abbrev pub joins_these : Bool
     joins_these = list_all has_count pairs && rows_listed

@@ -1,5 +1,5 @@
 -- Settled examples: what the definitions say of some wordings, a book and some days, gathered in one table. Assumes nothing.
-use Rattle.std.specs.Prelude.{◌≡◌, ℕ, ◌/◌, ◌%◌, true, false, List, [], ◌∷◌, ◌++◌, map, codes}
+use Rattle.std.specs.Prelude.{◌≡◌, ℕ, true, false, List, [], ◌∷◌, ◌++◌, map, codes}
 use Rattle.std.specs.List.{AllByRecursion, Contains}
 use Rattle.expressions.specs.Exprs.{Expr}
 use Rattle.expressions.specs.Wordings.{Means, Refused}
@@ -12,6 +12,7 @@ use Rattle.graphs.specs.declared.link.Link.{Link}
 use Rattle.kinds.specs.Calendars.{calendar_byte}
 use Rattle.kinds.specs.Days.{exists, day_number, day_shape}
 use Rattle.kinds.specs.Names.{text, same_name, name_shape, name_of}
+use Rattle.kinds.specs.Payloads.{two_bytes}
 use Rattle.kinds.specs.declared.calendar.Calendar.{Calendar}
 use Rattle.kinds.specs.declared.calendar.Calendar.TheVariants.{Gregorian, Julian}
 use Rattle.kinds.specs.declared.name.Name.{Name}
@@ -54,7 +55,7 @@ pub record JoinsJust (g : Graph) (e : Expr) (pairs : List (ℕ × ℕ × ℕ)) :
 
 -- the file of a book of one day
 abbrev pub day_file : Calendar → ℕ → ℕ → ℕ → List ℕ
-day_file c y m d = written day_shape (record { payloads = (calendar_byte c ∷ y % 256 ∷ y / 256 ∷ m ∷ d ∷ []) ∷ []; links = [] })
+day_file c y m d = written day_shape (record { payloads = (calendar_byte c ∷ two_bytes y ++ (m ∷ d ∷ [])) ∷ []; links = [] })
 
 pub data Example : Type 0 where
   -- a text is no expression, and is refused at a place

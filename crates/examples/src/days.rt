@@ -1,6 +1,6 @@
 // Days that are the same, and days that do not exist.
 use crate::day;
-use kinds::calendar::Calendar;
+use kinds::calendar::{Calendar, UnknownCalendar};
 
 #[test]
 fn numbers(rt: HostRuntime) {
@@ -10,6 +10,13 @@ fn numbers(rt: HostRuntime) {
     assert_eq!(rt; day(Calendar::Julian, 2023, 12, 25).number(), 45297);
     assert_eq!(rt; day(Calendar::Gregorian, 2024, 1, 7).number(), 45297);
     assert_eq!(rt; day(Calendar::Gregorian, 2199, 12, 31).number(), 109573);
+}
+
+// That printing can succeed, which no contract says.
+#[test]
+fn printed(rt: HostRuntime) {
+    let text = UnknownCalendar(7).to_string(rt.alloc());
+    assert!(rt; text.is_ok_and(|text| text.as_str() == "no calendar has the number 7"));
 }
 
 #[test]

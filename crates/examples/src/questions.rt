@@ -5,7 +5,6 @@ use graphs::layers::{Reversed, WithoutLetter};
 use graphs::link::Link;
 use graphs::sheet::Sheet;
 use kinds::calendar::Calendar;
-use kinds::day::Day;
 use languages::step::Step;
 use queries::Query;
 use queries::found::Found;
@@ -13,13 +12,17 @@ use refusals::Refusal;
 use std::alloc::{AllocError, Global};
 use std::test::Fail;
 
-// Whether this text is the answer where the wording is asked of All Souls.
-fn asked(heap: Global, wording: &[u8], text: &[u8]) -> Result<bool, AllocError> {
+// Whether this text is the answer where the wording is asked of a book.
+fn asked_of(heap: Global, file: &[u8], wording: &[u8], text: &[u8]) -> Result<bool, AllocError> {
     let mut input = Vec::new(heap);
     input.extend_from_slice(wording)?;
     input.extend_from_slice(b"\n")?;
-    input.extend_from_slice(ALL_SOULS)?;
+    input.extend_from_slice(file)?;
     Ok(answers(heap, input.as_slice(), text))
+}
+
+fn asked(heap: Global, wording: &[u8], text: &[u8]) -> Result<bool, AllocError> {
+    asked_of(heap, ALL_SOULS, wording, text)
 }
 
 #[test]
@@ -54,6 +57,37 @@ fn all_souls(rt: HostRuntime) -> Result<(), Fail> {
             heap,
             b"c*",
             b"entries 4 pairs 10\n0 0 0 0\n0 1 1 0c1\n0 2 2 0c1c2\n0 3 3 0c1c2c3\n1 1 0 1\n1 2 1 1c2\n1 3 2 1c2c3\n2 2 0 2\n2 3 1 2c3\n3 3 0 3\n",
+        )?
+    );
+    Ok(())
+}
+
+// The book that docs/FIRST.md makes, with a link to an entry that is not there; without its last 7 bytes it is sound.
+const FIRST: &[u8] =
+    b"\x02\x00\x01\x00\x01\x00\x09\x00\x02\x00All Souls\x08\x00\x02\x00All Soul\x09\x00\x02\x00All Souls\x03\x00\x03\x00\x00c\x01\x03\x00\x03\x00\x01c\x02\x03\x00\x03\x00\x02c\x03";
+
+// The answers that docs/FIRST.md shows.
+#[test]
+fn first_questions(rt: HostRuntime) -> Result<(), Fail> {
+    let heap = rt.alloc();
+    let sound = &FIRST[..58];
+    assert!(rt;
+        asked_of(
+            heap,
+            sound,
+            b"(c+)~",
+            b"entries 3 pairs 2\n0 1 1 0c1\n1 2 1 1c2\n"
+        )?
+    );
+    assert!(rt; asked_of(heap, sound, b"(c+)=", b"entries 3 pairs 1\n0 2 2 0c1c2\n")?);
+    assert!(rt; asked_of(heap, sound, b"c(", b"refused 21 at 2\n")?);
+    assert!(rt; asked_of(heap, FIRST, b"(c+)~", b"refused 15 at 58\n")?);
+    assert!(rt;
+        asked_of(
+            heap,
+            b"\x02\x00\x01\x00\x02\x00\x05\x00\x02\x00\x01\xe7\x07\x0c\x19\x05\x00\x02\x00\x00\xe8\x07\x01\x07\x05\x00\x02\x00\x00\xe8\x07\x01\x08\x05\x00\x02\x00\x01\xe7\x07\x0c\x1a\x03\x00\x03\x00\x00c\x01\x03\x00\x03\x00\x01c\x02\x03\x00\x03\x00\x02c\x03",
+            b"(c+)=",
+            b"entries 4 pairs 2\n0 1 1 0c1\n2 3 1 2c3\n"
         )?
     );
     Ok(())

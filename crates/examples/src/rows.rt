@@ -20,6 +20,13 @@ const LOOP: Link = Link {
     to: 0,
 };
 
+// That printing can succeed, which no contract says.
+#[test]
+fn printed(rt: HostRuntime) {
+    let text = Refusal::LengthUnfit { at: 6 }.to_string(rt.alloc());
+    assert!(rt; text.is_ok_and(|text| text.as_str() == "refused 13 at 6"));
+}
+
 #[test]
 fn input(rt: HostRuntime) {
     assert!(rt; answers(rt.alloc(), &[b'c'; 8193], b"refused 10 at 0\n"));

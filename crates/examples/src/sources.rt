@@ -6,9 +6,8 @@ use graphs::link::Link;
 use graphs::sheet::Sheet;
 use graphs::source::Source;
 use kinds::calendar::Calendar;
-use kinds::kind::{Kind, Payload};
+use kinds::kind::Payload;
 use kinds::name::NamePayload;
-use refusals::Refusal;
 use std::test::Fail;
 
 fn link(from: usize, letter: u8, to: usize) -> Option<Link> {

@@ -6,6 +6,7 @@ use graphs::link::Link;
 use kinds::name::Name;
 use languages::step::Step;
 use queries::Query;
+use queries::found::Found;
 use refusals::Refusal;
 use std::test::Fail;
 
@@ -58,6 +59,24 @@ fn all_souls(rt: HostRuntime) -> Result<(), Fail> {
     assert!(rt; leads(b"c*", 1, 2, &[step(b'c', 2)])?);
     assert!(rt; leads(b"c*", 1, 1, &[])?);
     assert!(rt; leads(b"0", 2, 2, &[])?);
+    Ok(())
+}
+
+// The calls that docs/CALLS.md lists.
+#[test]
+fn listed_calls(rt: HostRuntime) -> Result<(), Fail> {
+    let mut table = [0; 48];
+    let mut steps = [UNWRITTEN; 4];
+    let mut query = Query::new();
+    evaluate(&mut query, b"(c+)=", &mut table)?;
+    assert_eq!(rt; query.tally(&table), Ok(3));
+    assert_eq!(rt; query.next(&table, None), Ok(Some((0, 1))));
+    assert_eq!(rt; query.lookup(&table, 0, 3), Ok(Found::Steps(3)));
+    assert_eq!(rt; query.lookup(&table, 2, 3), Ok(Found::Absent));
+    assert_eq!(rt; query.next(&table, Some((1, 3))), Ok(None));
+    assert_eq!(rt; query.trace(&table, 1, 3, &mut steps), Ok(2));
+    assert_eq!(rt; steps, [step(b'c', 2), step(b'c', 3), UNWRITTEN, UNWRITTEN]);
+    assert_eq!(rt; query.trace(&table, 2, 3, &mut steps), Err(Refusal::NoPath));
     Ok(())
 }
 

@@ -48,6 +48,23 @@ fn numbering(rt: HostRuntime) -> Result<(), Fail> {
     Ok(())
 }
 
+// The parts of a wording that docs/LANGUAGE.md lists.
+#[test]
+fn listed_parts(rt: HostRuntime) -> Result<(), Fail> {
+    let parts = parse(b"ab|(c+)~")?;
+    let listed = [
+        Part::Letter(b'a'),
+        Part::Letter(b'b'),
+        Part::Join { left: 0 },
+        Part::Letter(b'c'),
+        Part::Plus,
+        Part::Differ,
+        Part::Either { left: 2 },
+    ];
+    assert!(rt; parts.as_slice() == listed.as_slice());
+    Ok(())
+}
+
 #[test]
 fn places(rt: HostRuntime) {
     assert!(rt; stops_at(b"", 0));

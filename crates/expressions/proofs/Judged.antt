@@ -32,6 +32,10 @@ front_formed e s few k = rw (front e s few k) (formed_parts 0 e)
 pub stored : (e : Expr) (p : Parts) → parts_of p ≡ parts_from 0 e → Stored e p
 stored e p h = record { parts = h; decodes = rw (h, length-parts 0 e) (decodes e) }
 
+-- an expression has so many parts stored
+pub stored_size : {e : Expr} {p : Parts} → Stored e p → length (parts_of p) ≡ size e
+stored_size {e} s = ap length s.parts ∙ length-parts 0 e
+
 -- a text goes wrong at one place only
 one_place : (t : List ℕ) (i j : ℕ) → Fails t i → Fails t j → i ≡ j
 one_place t i j x y = grind (arith, x.longest j, y.longest i, x.within, y.within, x.begins, y.begins)
@@ -55,8 +59,8 @@ not_both e d h k (too_many_parts a b c) = let n : size e ≡ _ = ap size (b.only
 
 pub decided_by : (t : List ℕ) (r : Result Parts Refusal) → Parsed t r → Decided t r
 decided_by t (Ok parts) h = record {
-  accepted = λ e d _ _. (parts, refl, subst (λ x. Stored x parts) (sym (h.means.only e d)) h.stored);
-  refused = λ x y. absurd (not_both h.expr h.means.stands h.short h.few y);
+  accepted = λ e d _ _. (parts, refl, subst (λ x. Stored x parts) (sym (h.worded.means.only e d)) h.stored);
+  refused = λ x y. absurd (not_both h.expr h.worded.means.stands h.worded.short h.worded.few y);
 }
 decided_by t (Err x) h = record {
   accepted = λ e d s f. absurd (not_both e d s f h);
@@ -70,5 +74,5 @@ read_is t s None short w h =
     too_many_parts short w.1 (omega arith)
 read_is t s (Some p) short w h =
     let x = h w.0 w.2 in
-    let n : length (parts_of p) ≡ size w.0 = ap length x.parts ∙ length-parts 0 w.0 in
-    record { expr = w.0; means = w.1; short = short; few = omega (arith, p.few, length-take p.count p.list); stored = x }
+    let n = stored_size x in
+    record { expr = w.0; worded = record { means = w.1; short = short; few = omega (arith, p.few, length-take p.count p.list) }; stored = x }

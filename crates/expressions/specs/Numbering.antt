@@ -26,7 +26,7 @@ made before q Star = star (before (q - 1))
 made before q Same = same (before (q - 1))
 made before q Differ = differ (before (q - 1))
 
--- the expression at a number
+-- the expression of a number (`epsilon` past the end)
 abbrev pub expr_at : List Expr → ℕ → Expr
 expr_at es k = slice_index_or es k epsilon
 

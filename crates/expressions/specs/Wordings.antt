@@ -29,12 +29,10 @@ pub record Worded (t : List ℕ) (e : Expr) : Type 0 where
   pub short : length t ≤ most_bytes
   pub few : size e ≤ most_parts
 
--- a wording is accepted: it stands for one expression, it and the expression keep the limits, and the expression is stored
+-- a wording is accepted: it is that of an expression, which is stored
 pub record Accepted (t : List ℕ) (parts : Parts) : Type 0 where
   pub expr : Expr
-  pub means : Means t expr
-  pub short : length t ≤ most_bytes
-  pub few : size expr ≤ most_parts
+  pub worded : Worded t expr
   pub stored : Stored expr parts
 
 -- a wording is refused, by the first of these that applies

@@ -8,14 +8,14 @@ use crate::reader::{SyntaxError, read};
 use refusals::Refusal;
 
 // A wording has at most so many bytes.
-pub const MOST_BYTES: usize = 200;
+pub const MOST_WORDING: usize = 200;
 
 // The parts of the expression that a text stands for.
 pub fn parse(text: &[u8]) -> Result<Parts, Refusal>
     ensures parsed { Parsed text.now result }
     ensures decided { Decided text.now result }
 {
-    if text.len() > MOST_BYTES {
+    if text.len() > MOST_WORDING {
         return Err(Refusal::WordingTooLong);
     }
     read(text)?.finish().ok_or(Refusal::TooManyParts)

@@ -6,13 +6,13 @@ use Rattle.std.proofs.lemmas.Bool.Decides.{nat_tests}
 use Rattle.std.proofs.lemmas.Grind.{common_steps}
 use Rattle.std.specs.Option.{option_map}
 use Rattle.graphs.specs.Links.{sound}
-use Rattle.kinds.specs.Payloads.{Shape, valid, word}
+use Rattle.kinds.specs.Payloads.{Shape, valid, word, two_bytes}
 use Rattle.refusals.specs.Rows.{first_refusal}
 use Rattle.refusals.specs.declared.Refusal.{Refusal}
 use Rattle.files.specs.declared.counts.Counts.{Counts}
-use Rattle.files.specs.Encoding.{head_kind, entry_kind, link_kind, two_bytes, framed, Raw, written, counts_of, Fits}
+use Rattle.files.specs.Encoding.{head_kind, entry_kind, link_kind, framed, Raw, written, counts_of, Fits}
 use Rattle.files.specs.Reading.{size_of, kind_of, payload_of, link_of, rows, bytes_so_far, due, Refused}
-use Rattle.files.specs.Walking.{counted, Told, Surveyed}
+use Rattle.files.specs.Walking.{counted, ReadOn, Surveyed}
 use Rattle.files.proofs.Records.{Bytes, split, payload_length, three, two}
 
 -- the book with one record more
@@ -48,18 +48,18 @@ module _ (sh : Shape) (room : Counts) where
     fits : Fits sh room (grown s k p)
 
   head_grown : (p : List ℕ) → two_bytes sh.number ≡ p → Grown None head_kind p
-  head_grown p is = record { bytes = ap (framed head_kind) (sym is); fits = record { entries = omega arith; links = omega arith; values = tt; joins = tt } }
+  head_grown p is = record { bytes = ap (framed head_kind) (sym is); fits = record { entries = omega arith; links = omega arith; values = tt; all_sound = tt } }
 
   entry_grown : (b : Raw) (p : List ℕ) → Fits sh room b → b.links ≡ [] → valid sh p ≡ true → length b.payloads < room.entries → Grown (Some b) entry_kind p
   entry_grown b p fits nil fine space = record {
     bytes = grind (arith, common_steps);
-    fits = record { entries = omega (arith, length_push b.payloads p); links = fits.links; values = All-push _ b.payloads p fits.values fine; joins = rw nil tt };
+    fits = record { entries = omega (arith, length_push b.payloads p); links = fits.links; values = All-push _ b.payloads p fits.values fine; all_sound = rw nil tt };
   }
 
   link_grown : (b : Raw) (p : List ℕ) → Fits sh room b → length p ≡ 3 → sound (length b.payloads) (link_of p) ≡ true → length b.links < room.links → Grown (Some b) link_kind p
   link_grown b p fits long fine space = record {
     bytes = let same = three p long in grind (arith, common_steps);
-    fits = record { entries = fits.entries; links = omega (arith, length_push b.links (link_of p)); values = fits.values; joins = All-push _ b.links (link_of p) fits.joins fine };
+    fits = record { entries = fits.entries; links = omega (arith, length_push b.links (link_of p)); values = fits.values; all_sound = All-push _ b.links (link_of p) fits.all_sound fine };
   }
 
   record_grown : (s : Option Raw) (at : ℕ) (left : List ℕ) → Bytes left → IfSome s (Fits sh room) → first_refusal (rows sh room (option_map counts_of s) at left) ≡ None → Grown s (kind_of left) (payload_of left)
@@ -91,7 +91,7 @@ module _ (sh : Shape) (room : Counts) where
   abbrev pub going_none : (bytes : List ℕ) → Going bytes bytes None
   going_none bytes = record { book = None; is = refl; counts = refl; fits = tt }
 
-  pub going_more : (bytes left rest : List ℕ) (read : Option Counts) (at : ℕ) (more : Counts) → Bytes bytes → Going bytes left read → (first_refusal (rows sh room read at left) ≡ None) × Told read left more rest → Going bytes rest (Some more)
+  pub going_more : (bytes left rest : List ℕ) (read : Option Counts) (at : ℕ) (more : Counts) → Bytes bytes → Going bytes left read → (first_refusal (rows sh room read at left) ≡ None) × ReadOn read left more rest → Going bytes rest (Some more)
   going_more bytes left rest read at more small g h =
       let front = bytes_so_far sh g.book in
       let bs : Bytes left = λ i. subst (λ n. n < 256) (ap (λ xs. get_or xs (length front + i) 0) g.is ∙ get_or-append-add front left i 0) (small (length front + i)) in

@@ -2,8 +2,8 @@
 use Rattle.std.proofs.Common.{◌≡◌, ℕ, suc, ◌+◌, ◌/◌, ◌%◌, ◌<◌, ◌≤◌, List, ◌++◌, length, get_or, drop, sym, refl, ap, ◌∙◌, arith, rules}
 use Rattle.std.proofs.lemmas.List.{take_at, drop_at, places}
 use Rattle.std.proofs.lemmas.Grind.{common_steps, elements}
-use Rattle.kinds.specs.Payloads.{word}
-use Rattle.files.specs.Encoding.{two_bytes, framed, link_bytes}
+use Rattle.kinds.specs.Payloads.{word, two_bytes}
+use Rattle.files.specs.Encoding.{framed, link_bytes}
 use Rattle.files.specs.Reading.{size_of, kind_of, payload_of, link_of}
 
 -- every element is a byte

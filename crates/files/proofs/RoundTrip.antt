@@ -1,19 +1,20 @@
 -- A file that is written reads back, and a file that is read is written again. Assumes nothing.
-use Rattle.std.proofs.Common.{◌≡◌, ℕ, ◌+◌, ◌*◌, ◌<◌, ◌≤◌, true, List, [], ◌∷◌, ◌++◌, map, length, take, drop, Some, None, Ok, Err, Result, sym, refl, ap, ◌∙◌, subst, arith}
+use Rattle.std.proofs.Common.{◌≡◌, ℕ, ◌+◌, ◌*◌, ◌<◌, ◌≤◌, true, List, [], ◌∷◌, ◌++◌, map, length, take, drop, Some, None, Ok, Err, Result, sym, ap, ◌∙◌, arith}
 use Rattle.std.proofs.lemmas.List.{length-append, length-map, drop-drop}
-use Rattle.std.proofs.lemmas.Bool.{and_from, and_parts}
+use Rattle.std.proofs.lemmas.List.Elements.{All-from_recursion, recursion_from_All}
+use Rattle.std.proofs.lemmas.List.Sums.{AllPass-from_list_all, list_all-from_AllPass}
 use Rattle.std.proofs.lemmas.Bool.Decides.{nat_tests}
 use Rattle.std.proofs.lemmas.Grind.{common_steps}
 use Rattle.std.specs.List.{AllZip, AllByRecursion}
 use Rattle.graphs.specs.Links.{sound, all_sound}
 use Rattle.graphs.specs.declared.link.Link.{Link}
-use Rattle.kinds.specs.Payloads.{Shape, valid}
+use Rattle.kinds.specs.Payloads.{Shape, valid, two_bytes}
 use Rattle.refusals.specs.Rows.{first_refusal}
 use Rattle.refusals.specs.declared.Refusal.{Refusal}
 use Rattle.refusals.specs.declared.Refusal.TheVariants.{BytesTooShort}
 use Rattle.files.specs.declared.counts.Counts.{Counts}
 use Rattle.files.specs.Books.{room_of, Decided, writable, write_rows, Put, SameFile, SameBook}
-use Rattle.files.specs.Encoding.{head_kind, two_bytes, framed, entry_bytes, links_bytes, raw_book, encode, most_entries, most_links, counts_of, Fits}
+use Rattle.files.specs.Encoding.{head_kind, framed, entry_bytes, links_bytes, raw_book, encode, most_entries, most_links, counts_of, Fits}
 use Rattle.files.specs.Walking.{Surveyed}
 use Rattle.files.proofs.Filling.{links_length}
 use Rattle.files.proofs.Walk.{one_refusal, no_refusal, one_book}
@@ -30,15 +31,6 @@ decided sh room bytes (Err y) s =
       accepted = λ b fits is. absurd (no_refusal sh room y b bytes s fits is);
       refused = λ x r. ap Err (one_refusal sh room y x bytes s r);
     }
-
--- links that are sound, as the test finds them
-sound_all : (n : ℕ) (ls : List Link) → all_sound n ls ≡ true → AllByRecursion (λ l. sound n l ≡ true) ls
-sound_all n [] e = tt
-sound_all n (l ∷ ls) e = let p = and_parts (sound n l) (all_sound n ls) e in (p.0, sound_all n ls p.1)
-
-all_sound_lem : (n : ℕ) (ls : List Link) → AllByRecursion (λ l. sound n l ≡ true) ls → all_sound n ls ≡ true
-all_sound_lem n [] h = refl
-all_sound_lem n (l ∷ ls) h = and_from (sound n l) (all_sound n ls) h.0 (all_sound_lem n ls h.1)
 
 -- a book that may be written, by its parts
 known_writable : (n : ℕ) (ls : List Link) → writable n ls ≡ true → (n ≤ 128) × (length ls ≤ 1024) × (all_sound n ls ≡ true)
@@ -65,7 +57,7 @@ module _ {V : Type 0} (sh : Shape) (encoded : V → List ℕ) where
     put_fits values =
         let n : length (map encoded es) ≡ length es = length-map es encoded in
         let p = known_writable (length es) ls (sym fine) in
-        record { entries = rw n p.0; links = p.1; values = values; joins = subst (λ k. AllByRecursion (λ l. sound k l ≡ true) ls) (sym n) (sound_all (length es) ls p.2) }
+        record { entries = rw n p.0; links = p.1; values = values; all_sound = rw n (recursion_from_All (λ l. sound (length es) l ≡ true) ls (AllPass-from_list_all (sound (length es)) ls p.2)) }
 
     pub put_book : (out h e l rest : List ℕ) (size : ℕ) → h ≡ framed head_kind (two_bytes sh.number) → e ≡ entry_bytes encoded es → l ≡ links_bytes ls → size ≡ length (entry_bytes encoded es) → rest ≡ drop (7 * length ls) (drop size (drop 6 out)) → 6 + size + 7 * length ls ≤ length out → Put sh encoded es ls out (h ++ (e ++ (l ++ rest))) (6 + size + 7 * length ls)
     put_book out h e l rest size eh ee el es-size er room =
@@ -90,7 +82,7 @@ module _ {V : Type 0} (sh : Shape) (encoded : V → List ℕ) where
   fits_room : (es : List V) (ls : List Link) (buffer : List V) (spare : List Link) → Fits sh most (raw_book encoded es ls) → length es ≤ length buffer → length ls ≤ length spare → Fits sh (room_of buffer spare) (raw_book encoded es ls)
   fits_room es ls buffer spare fits a b =
       let n : length (map encoded es) ≡ length es = length-map es encoded in
-      record { entries = omega (arith, fits.entries); links = omega (arith, fits.links); values = fits.values; joins = fits.joins }
+      record { entries = omega (arith, fits.entries); links = omega (arith, fits.links); values = fits.values; all_sound = fits.all_sound }
 
   pub same_book : (decoded : List ℕ → V) (agree : V → V → Type 0) → ((x y : V) → encoded x ≡ encoded y → agree x y) → (bytes : List ℕ) (es : List V) (ls : List Link) → Fits sh most (raw_book encoded es ls) → bytes ≡ encode sh encoded es ls → SameBook sh encoded decoded agree bytes es ls
   same_book decoded agree known bytes es ls fits is buffer buffer' spare spare' (Ok n) a b held =
@@ -111,7 +103,7 @@ module _ {V : Type 0} (sh : Shape) (encoded : V → List ℕ) where
       (ap Ok size, ap (λ k. take k out') (sym size) ∙ put.front ∙ sym is)
   same_file room bytes es ls a b fits is out out' (Err x) h put =
       let n : length (map encoded es) ≡ length es = length-map es encoded in
-      let fine : writable (length es) ls ≡ true = writable_from (length es) ls (omega (arith, fits.entries)) (omega (arith, fits.links)) (all_sound_lem (length es) ls (subst (λ k. AllByRecursion (λ l. sound k l ≡ true) ls) n fits.joins)) in
+      let fine : writable (length es) ls ≡ true = writable_from (length es) ls (omega (arith, fits.entries)) (omega (arith, fits.links)) (list_all-from_AllPass (sound (length es)) ls (All-from_recursion (λ l. sound (length es) l ≡ true) ls (rw n at fits.all_sound))) in
       let none = write_none es ls (length out) fine (omega (arith, ap length is)) in
       let both : None ≡ Some x = sym none ∙ put.0 in
       absurd (cc)

@@ -7,11 +7,11 @@ use Rattle.std.specs.Option.{option_map}
 use Rattle.std.specs.List.{flat_map, AllByRecursion}
 use Rattle.graphs.specs.Links.{sound}
 use Rattle.graphs.specs.declared.link.Link.{Link}
-use Rattle.kinds.specs.Payloads.{Shape, valid}
+use Rattle.kinds.specs.Payloads.{Shape, valid, two_bytes}
 use Rattle.refusals.specs.Rows.{first_refusal}
 use Rattle.refusals.specs.declared.Refusal.{Refusal}
 use Rattle.files.specs.declared.counts.Counts.{Counts}
-use Rattle.files.specs.Encoding.{head_kind, entry_kind, link_kind, two_bytes, framed, link_bytes, Raw, written, counts_of, Fits}
+use Rattle.files.specs.Encoding.{head_kind, entry_kind, link_kind, framed, link_bytes, Raw, written, counts_of, Fits}
 use Rattle.files.specs.Reading.{size_of, kind_of, payload_of, rows, bytes_so_far, due, Refused}
 use Rattle.files.proofs.Growing.{grown}
 use Rattle.files.proofs.Records.{word_of, frame_size, frame_payload, frame_rest}
@@ -96,7 +96,7 @@ module _ (sh : Shape) (room : Counts) where
       b.payloads [] f2 (links ++ t) (omega (arith, fits.entries)) fits.values
       ∙ walk_list link_frame (λ ls. record { payloads = b.payloads; links = ls }) room.links (λ l. sound (length b.payloads) l ≡ true)
       (λ ls l g u space fine. walk_on g (Some (record { payloads = b.payloads; links = ls })) link_kind (link_bytes l) u refl (link_passes (record { entries = length b.payloads; links = length ls }) _ l u space fine))
-      b.links [] f t (omega (arith, fits.links)) fits.joins
+      b.links [] f t (omega (arith, fits.links)) fits.all_sound
 
   -- from some number of steps on, the walk has come to its end
   abbrev Ends : List ℕ → End → Type 0

@@ -1,9 +1,9 @@
--- A book as a file: a head, then the entries, then the links, each a record. Assumes nothing.
-use Rattle.std.specs.Prelude.{◌≡◌, ℕ, ◌/◌, ◌%◌, ◌≤◌, true, List, [], ◌∷◌, ◌++◌, map, length}
+-- A book as a file: a head, then the entries, then the links, each a record. Of these `entry_bytes` stands in no promise. Assumes nothing.
+use Rattle.std.specs.Prelude.{◌≡◌, ℕ, ◌≤◌, true, List, [], ◌∷◌, ◌++◌, map, length}
 use Rattle.std.specs.List.{flat_map, AllByRecursion}
 use Rattle.graphs.specs.Links.{sound}
 use Rattle.graphs.specs.declared.link.Link.{Link}
-use Rattle.kinds.specs.Payloads.{Shape, valid}
+use Rattle.kinds.specs.Payloads.{Shape, two_bytes, valid}
 use Rattle.files.specs.declared.counts.Counts.{Counts}
 
 -- the kinds of record
@@ -15,10 +15,6 @@ entry_kind = 2
 
 abbrev pub link_kind : ℕ
 link_kind = 3
-
--- a number in two bytes, the low one first
-abbrev pub two_bytes : ℕ → List ℕ
-two_bytes n = n % 256 ∷ n / 256 ∷ []
 
 -- a record: the length of its payload, its kind, the payload
 abbrev pub framed : ℕ → List ℕ → List ℕ
@@ -51,7 +47,7 @@ raw_book encoded values links = record { payloads = map encoded values; links = 
 abbrev pub encode : {V : Type 0} → Shape → (V → List ℕ) → List V → List Link → List ℕ
 encode sh encoded values links = written sh (raw_book encoded values links)
 
--- a book has at most so many entries and links
+-- a book in a file has at most so many entries and links
 abbrev pub most_entries : ℕ
 most_entries = 128
 
@@ -66,4 +62,4 @@ pub record Fits (sh : Shape) (room : Counts) (b : Raw) : Type 0 where
   pub entries : length b.payloads ≤ room.entries
   pub links : length b.links ≤ room.links
   pub values : AllByRecursion (λ p. valid sh p ≡ true) b.payloads
-  pub joins : AllByRecursion (λ l. sound (length b.payloads) l ≡ true) b.links
+  pub all_sound : AllByRecursion (λ l. sound (length b.payloads) l ≡ true) b.links

@@ -24,8 +24,8 @@ counted None k = record { entries = 0; links = 0 }
 counted (Some read) k = cond (k == entry_kind) (record { entries = read.entries + 1; links = read.links }) (record { entries = read.entries; links = read.links + 1 })
 
 -- the record at the front is read: the counts with it, and what lies behind it
-abbrev pub Told : Option Counts → List ℕ → Counts → List ℕ → Type 0
-Told read left more rest = (more ≡ counted read (kind_of left)) × (rest ≡ drop (4 + size_of left) left)
+abbrev pub ReadOn : Option Counts → List ℕ → Counts → List ℕ → Type 0
+ReadOn read left more rest = (more ≡ counted read (kind_of left)) × (rest ≡ drop (4 + size_of left) left)
 
 -- the payloads of the first n records
 abbrev pub payloads_in : ℕ → List ℕ → List (List ℕ)

@@ -2,7 +2,7 @@
 ghost use Rattle.std.specs.Prelude.{◌≡◌, ℕ, [], ◌∷◌, ◌<◌, ◌≤◌, not, length, take, drop, nat_lt, MatchOption, Some, None};
 ghost use Rattle.refusals.specs.Rows.{ByRows};
 ghost use Rattle.files.specs.Reading.{size_of, kind_of, rows};
-ghost use Rattle.files.specs.Walking.{Told, Surveyed};
+ghost use Rattle.files.specs.Walking.{ReadOn, Surveyed};
 
 use crate::counts::Counts;
 use crate::frame::{HEAD_SIZE, LINK_SIZE, RecordKind, link_of};
@@ -39,7 +39,7 @@ fn check_record<'a, K: Kind>(
     read: Option<Counts>,
     room: Counts,
 ) -> Result<(Counts, &'a [u8]), Refusal>
-    ensures { ByRows (rows K.Payload.Payload.shape room read at left.now) result (λ x. Told read left.now x.0 x.1.now) }
+    ensures { ByRows (rows K.Payload.Payload.shape room read at left.now) result (λ x. ReadOn read left.now x.0 x.1.now) }
 {
     let Some((size, kind, rest)) = split_heading(left) else {
         return Err(Refusal::HeadingCut { at });

@@ -2,8 +2,8 @@
 ghost use Rattle.std.specs.Prelude.{◌≡◌, ℕ, ◌+◌, ◌*◌, ◌<◌, ◌≤◌, ◌++◌, true, map, length};
 ghost use Rattle.std.specs.List.{AllByRecursion};
 ghost use Rattle.graphs.specs.Links.{all_sound};
-ghost use Rattle.kinds.specs.Payloads.{valid};
-ghost use Rattle.files.specs.Encoding.{head_kind, entry_kind, link_kind, two_bytes, framed, link_bytes, entry_bytes, links_bytes};
+ghost use Rattle.kinds.specs.Payloads.{valid, two_bytes};
+ghost use Rattle.files.specs.Encoding.{head_kind, entry_kind, link_kind, framed, link_bytes, entry_bytes, links_bytes};
 ghost use Rattle.files.specs.Walking.{number_of};
 
 use crate::frame::{HEADING_SIZE, LINK_SIZE, RecordKind};

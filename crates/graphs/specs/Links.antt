@@ -19,7 +19,7 @@ read_among n l = cond (sound n l) (Some l) None
 abbrev pub turned : Link → Link
 turned l = record { from = l.to; letter = l.letter; to = l.from }
 
--- nothing where there is a link of the letter a
+-- what a place holds, but nothing where that is a link of the letter a
 abbrev pub unless : ℕ → Option Link → Option Link
 unless a None = None
 unless a (Some l) = cond (l.letter == a) None (Some l)

@@ -37,7 +37,7 @@ pub record Months : Type 0 where
 abbrev pub days_in : Months → List SheetDay
 days_in m = sheet_days m.year m.month m.count
 
--- the day of an entry
+-- the day of an entry ((0, 0) past the end)
 abbrev pub day_at : List SheetDay → ℕ → SheetDay
 day_at days i = slice_index_or days i (0, 0)
 

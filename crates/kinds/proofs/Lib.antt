@@ -1,2 +1,1 @@
 pub mod DayFacts
-pub mod Fronts

@@ -36,6 +36,7 @@ abbrev pub calendar_byte : Calendar → ℕ
 calendar_byte Gregorian = 0
 calendar_byte Julian = 1
 
+-- and back: 0 is Gregorian, any other number Julian (`calendar_from` and `day_shape` take 0 and 1 alone)
 abbrev pub calendar_of : ℕ → Calendar
 calendar_of b = cond (b == 0) Gregorian Julian
 
@@ -43,6 +44,6 @@ calendar_of b = cond (b == 0) Gregorian Julian
 abbrev pub calendar_from : ℕ → Result Calendar UnknownCalendar
 calendar_from b = if nat_le b 1 then Ok (calendar_of b) else Err (record { 0 = b })
 
--- the day numbers of 1 January of the 300 years from 1900 on
+-- the day numbers of 1 January of the 300 years from 1900 on, which the private tables hold
 abbrev pub first_days : Calendar → List ℕ
 first_days c = map (new_year c) (range_with_len 1900 300)

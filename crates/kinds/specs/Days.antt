@@ -1,19 +1,21 @@
 -- Days of two calendars, from 1900 to 2199. Assumes nothing.
-use Rattle.std.specs.Prelude.{◌≡◌, ℕ, ◌+◌, ◌-◌, ◌/◌, ◌%◌, Bool, ◌&&◌, List, [], ◌∷◌, ◌==◌, nat_le, slice_index}
+use Rattle.std.specs.Prelude.{◌≡◌, ℕ, ◌+◌, ◌-◌, Bool, ◌&&◌, List, [], ◌∷◌, ◌++◌, ◌==◌, nat_le, slice_index}
 use Rattle.kinds.specs.declared.calendar.Calendar.{Calendar}
 use Rattle.kinds.specs.declared.calendar.Calendar.TheVariants.{Gregorian}
 use Rattle.kinds.specs.declared.day.Day.{Day}
 use Rattle.kinds.specs.Calendars.{leap, new_year, month_length, days_before, calendar_byte, calendar_of}
-use Rattle.kinds.specs.Payloads.{Shape, word}
+use Rattle.kinds.specs.Payloads.{Shape, word, two_bytes}
 use Rattle.kinds.specs.Ranges.{within}
 
--- the year, the month and the day of the month that the fields stand for: a year from 1900 to 2199, and so on
+-- the year that the fields stand for, from 1900 to 2199
 abbrev pub year_of : Day → ℕ
 year_of d = 1899 + within 300 (d.year - 1899)
 
+-- the month, from 1 to 12
 abbrev pub month_of : Day → ℕ
 month_of d = within 12 d.month
 
+-- the day of the month, one that the month has
 abbrev pub date_of : Day → ℕ
 date_of d = within (month_length (leap d.calendar (year_of d)) (month_of d)) d.date
 
@@ -31,7 +33,7 @@ exists c y m d = (nat_le 1900 y && nat_le y 2199) && ((nat_le 1 m && nat_le m 12
 
 -- a payload of five bytes: the calendar, the year in two (the low one first), the month and the day
 abbrev pub day_bytes : Day → List ℕ
-day_bytes d = calendar_byte d.calendar ∷ year_of d % 256 ∷ year_of d / 256 ∷ month_of d ∷ date_of d ∷ []
+day_bytes d = calendar_byte d.calendar ∷ two_bytes (year_of d) ++ (month_of d ∷ date_of d ∷ [])
 
 -- the day that a payload is read as
 abbrev pub day_of : List ℕ → Day

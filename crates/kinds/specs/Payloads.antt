@@ -1,5 +1,5 @@
 -- The payloads of a kind of value. Assumes nothing.
-use Rattle.std.specs.Prelude.{ℕ, ◌+◌, ◌*◌, Bool, ◌&&◌, List, ◌++◌, length, take, drop, nat_le}
+use Rattle.std.specs.Prelude.{ℕ, ◌+◌, ◌*◌, ◌/◌, ◌%◌, Bool, ◌&&◌, List, [], ◌∷◌, ◌++◌, length, take, drop, nat_le}
 
 -- the number of the kind, the least and the most bytes of a payload, and which payloads of such a length stand for a value
 pub record Shape : Type 0 where
@@ -11,6 +11,10 @@ pub record Shape : Type 0 where
 -- the number that two bytes stand for, the low one first
 abbrev pub word : ℕ → ℕ → ℕ
 word low high = low + 256 * high
+
+-- a number in two bytes, the low one first
+abbrev pub two_bytes : ℕ → List ℕ
+two_bytes n = n % 256 ∷ n / 256 ∷ []
 
 -- a length that a payload may have
 abbrev pub fitting : Shape → ℕ → Bool

@@ -2,7 +2,7 @@
 ghost use Rattle.std.specs.Prelude.{◌≡◌, ℕ, ◌<◌, ◌≤◌, if◌then◌else◌, Some, None, nat_le};
 ghost use Rattle.std.proofs.Common.{rules, refl};
 ghost use Rattle.std.specs.Cmp.Rules.{comparing};
-ghost use Rattle.kinds.specs.Agreement.{day_known};
+ghost use Rattle.kinds.specs.Agreement.{day_known, day_kept};
 ghost use Rattle.kinds.specs.Days.{year_of, month_of, date_of, day_number, same_day, exists, first_day, day_bytes, day_of, day_shape, SameDate};
 
 use crate::calendar::{Calendar, FIRST_YEAR, LAST_YEAR, YEARS};
@@ -151,4 +151,6 @@ impl Kind for Day {
     type Payload = DayPayload;
 
     ghost numbered = { refl };
+
+    ghost kept = { day_kept };
 }

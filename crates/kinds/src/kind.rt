@@ -51,4 +51,7 @@ pub trait Kind: Copy + Eq {
 
     // The shape of the payloads has the kind's number.
     ghost numbered: { NUMBER ≡ Self.Payload.Payload.shape.number };
+
+    // Values that agree in all that a file keeps of them are the same.
+    ghost kept: { (x y : Self) → Self.Payload.Payload.agree x y → Self.eq x y ≡ true };
 }

@@ -6,7 +6,7 @@ ghost use Rattle.kinds.specs.Names.{text, same_name, name_shape, name_of, SameTe
 ghost use Rattle.kinds.specs.Ranges.{within};
 
 use crate::kind::{Kind, Payload};
-use crate::payload::{copy_front, kept_within};
+use crate::payload::copy_front;
 
 const MOST_BYTES: usize = 128;
 
@@ -23,8 +23,9 @@ impl Name {
         ensures is { result.now ≡ text self.now }
         ensures size { length result.now ≡ within 128 self.now.len }
     {
-        let size = kept_within(MOST_BYTES as u16, u16::from(self.len));
-        &self.bytes[..usize::from(size)]
+        // As `kept_within`, without its case: a sum with a byte does not wrap, and texts are compared often.
+        let size = (usize::from(self.len) + (MOST_BYTES - 1)) % MOST_BYTES + 1;
+        &self.bytes[..size]
     }
 }
 
@@ -109,4 +110,6 @@ impl Kind for Name {
     type Payload = NamePayload;
 
     ghost numbered = { refl };
+
+    ghost kept = { λ x y agree. Prim.search (comparing, rules) };
 }

@@ -1,17 +1,10 @@
--- The laws of cells: one answer, the cell of a union, of sums, of a union over numbers below n. Assumes nothing.
-use Rattle.std.proofs.Common.{◌≡◌, ℕ, zero, suc, ◌+◌, ◌<◌, ◌≤◌, min, Bool, true, false, cond, ◌⊎◌, sym, refl, subst, inl, inr, ⊎_elim, arith}
+-- The laws of cells: the cell of a union, of sums, of a union over numbers below n. Assumes nothing.
+use Rattle.std.proofs.Common.{◌≡◌, ℕ, zero, suc, ◌+◌, ◌<◌, ◌≤◌, min, Bool, true, false, cond, ◌⊎◌, refl, subst, inl, inr, ⊎_elim, arith}
 use native.Mathlib.Decide.{dec_lt, dec_le}
+use Rattle.std.proofs.lemmas.Bool.{false≢true, true≢false}
 use Rattle.std.proofs.lemmas.Bool.Decides.{nat_tests}
 use Rattle.languages.specs.Algebra.{sat_add, least_below}
 use Rattle.languages.specs.Cells.{Cell, long, none}
-
-cell_le : {S : ℕ → Type 0} {a b : ℕ} → Cell S a → Cell S b → a ≤ b
-cell_le {S} {a} {b} x y =
-    elim (dec_lt b none)
-    [ yes h ↦ (let w = y.some h in omega (arith, x.least w.0 w.1, w.2)) | no h ↦ omega (arith, x.small) ]
-
-pub cell_unique : {S : ℕ → Type 0} {a b : ℕ} → Cell S a → Cell S b → a ≡ b
-cell_unique x y = let p = cell_le x y in let q = cell_le y x in omega arith
 
 pub sat_add-le : (a b : ℕ) → sat_add a b ≤ none
 sat_add-le a b = grind (arith, nat_tests)
@@ -79,9 +72,6 @@ cell_least {S} {c} (suc n) h =
     last l w = elim (dec_lt w.0 n)
         [ yes lt ↦ inl (w.0, lt, w.2) | no ge ↦ inr (same l w.0 (omega (arith, w.1)) w.2) ]
 
-false_true : false ≡ true → ⊥
-false_true e = let z : ◌≡◌ {A = ℕ} 0 1 = cc in omega arith
-
 -- one number
 pub cell_one : (k : ℕ) → k ≤ long → Cell (λ l. l ≡ k) k
 cell_one k h = record { small = omega arith; some = λ _. (k, refl, omega arith); least = λ l e. omega arith }
@@ -89,8 +79,8 @@ cell_one k h = record { small = omega arith; some = λ _. (k, refl, omega arith)
 -- under a test
 pub cell_if : {S : ℕ → Type 0} {c : ℕ} (b : Bool) → Cell S c → Cell (λ l. S l × (b ≡ true)) (cond b c none)
 cell_if true p = cell_move (λ l s. (s, refl)) (λ l w. (l, w.0, omega arith)) p
-cell_if false p = cell_none (λ l w. false_true w.1)
+cell_if false p = cell_none (λ l w. false≢true w.1)
 
 pub cell_unless : {S : ℕ → Type 0} {c : ℕ} (b : Bool) → Cell S c → Cell (λ l. S l × (b ≡ false)) (cond b none c)
 cell_unless false p = cell_move (λ l s. (s, refl)) (λ l w. (l, w.0, omega arith)) p
-cell_unless true p = cell_none (λ l w. false_true (sym w.1))
+cell_unless true p = cell_none (λ l w. true≢false w.1)

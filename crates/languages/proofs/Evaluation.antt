@@ -1,16 +1,17 @@
 -- The cells of an expression over a graph, computed by the definitions, so that examples can be settled. Assumes nothing.
-use Rattle.std.proofs.Common.{◌≡◌, ℕ, zero, suc, min, Bool, true, false, cond, eqb, ◌&&◌, ◌⊎◌, List, [], ◌∷◌, Some, None, Option, sym, refl, ap, ◌∙◌, inl, inr, arith}
-use Rattle.std.proofs.lemmas.Bool.{or_cases, or_left, or_right, false≢true}
+use Rattle.std.proofs.Common.{◌≡◌, ℕ, min, Bool, true, false, cond, eqb, ◌&&◌, ◌⊎◌, Some, None, Option, sym, refl, ap, ◌∙◌, inl, inr, arith}
+use Rattle.std.proofs.lemmas.Bool.{false≢true}
 use Rattle.std.proofs.lemmas.Bool.Decides.{nat_tests}
+use Rattle.std.proofs.lemmas.List.{get_or_default}
+use Rattle.std.proofs.lemmas.List.Folds.{Any-from_list_any, list_any_at}
 use Rattle.std.specs.List.{list_any}
-use Rattle.std.specs.Prelude.{slice_index_or}
 use Rattle.expressions.specs.Exprs.{Expr, epsilon, letter, either, join, plus, star, same, differ}
-use Rattle.graphs.specs.Graphs.{Graph}
+use Rattle.graphs.specs.Graphs.{Graph, link_at}
 use Rattle.graphs.specs.declared.link.Link.{Link}
 use Rattle.languages.specs.Algebra.{sat_add, least_below, closed, Cells}
 use Rattle.languages.specs.Cells.{Lengths, none}
 use Rattle.languages.specs.Paths.{Linked}
-use Rattle.languages.proofs.Walks.{epsilon_cells, letter_cell, either_cells, join_cell, plus_cells, star_cells, same_cells, differ_cells}
+use Rattle.languages.proofs.Walks.{linked_within, epsilon_cells, letter_cell, either_cells, join_cell, plus_cells, star_cells, same_cells, differ_cells}
 
 -- whether a place holds the link from u to v with the letter a
 abbrev is_link : ℕ → ℕ → ℕ → Option Link → Bool
@@ -43,21 +44,11 @@ module _ (u a v : ℕ) where
   held_is : (o : Option Link) → o ≡ Some link → is_link u a v o ≡ true
   held_is o e = rw e (grind (arith, nat_tests))
 
-  found : (places : List (Option Link)) → list_any (is_link u a v) places ≡ true → (k : ℕ) × (slice_index_or places k None ≡ Some link)
-  found [] h = absurd (false≢true h)
-  found (o ∷ places) h = elim (or_cases (is_link u a v o) (list_any (is_link u a v) places) h) [
-    | inl is ↦ (0, is_held o is)
-    | inr later ↦ (let r = found places later in (suc r.0, r.1))
-  ]
-
-  lies : (k : ℕ) (places : List (Option Link)) → slice_index_or places k None ≡ Some link → list_any (is_link u a v) places ≡ true
-  lies k [] e = cc
-  lies zero (o ∷ places) e = or_left (is_link u a v o) _ (held_is o e)
-  lies (suc k) (o ∷ places) e = or_right (is_link u a v o) _ (lies k places e)
-
   linked : (g : Graph) (b : Bool) → has_link g u a v ≡ b → (Linked g u a v × (cond b 1 none ≡ 1)) ⊎ ((Linked g u a v → ⊥) × (cond b 1 none ≡ none))
-  linked g true h = inl (found g.places h, refl)
-  linked g false h = inr (λ l. false≢true (sym h ∙ lies l.0 g.places l.1), refl)
+  linked g true h =
+      let k = Any-from_list_any (is_link u a v) g.places h in
+      inl ((k.0, get_or_default g.places k.0 None k.1 k.2 ∙ k.3 ∙ is_held k.1 k.4), refl)
+  linked g false h = inr (λ l. false≢true (sym h ∙ list_any_at (is_link u a v) g.places l.0 None (linked_within g u a v l) (held_is (link_at g l.0) l.1)), refl)
 
 -- what is computed are the cells of the expression
 pub cells_are : (g : Graph) (e : Expr) → Cells g.entries (Lengths g e) (cells_of g e)

@@ -1,6 +1,8 @@
 -- The cells of each form of expression, from those of its halves. Assumes nothing.
-use Rattle.std.proofs.Common.{◌≡◌, ℕ, ◌<◌, min, Bool, true, false, cond, eqb, ◌⊎◌, List, [], ◌∷◌, ◌++◌, length, sym, refl, ap, ◌∙◌, subst, inl, inr, ⊎_elim, append-nil, arith, length-append}
+use Rattle.std.proofs.Common.{◌≡◌, ℕ, ◌<◌, min, Bool, true, false, cond, eqb, ◌⊎◌, List, [], ◌∷◌, ◌++◌, length, None, sym, refl, ap, ◌∙◌, subst, inl, inr, ⊎_elim, append-nil, arith, length-append}
+use Rattle.std.proofs.lemmas.Bool.{cases_lt}
 use Rattle.std.proofs.lemmas.Bool.Decides.{Decides-eqb}
+use Rattle.std.proofs.lemmas.List.{get_or_past}
 use Rattle.expressions.specs.Exprs.{Expr, epsilon, letter, either, join, plus, star, same, differ}
 use Rattle.graphs.specs.Graphs.{Graph}
 use Rattle.languages.specs.declared.step.Step.{Step}
@@ -10,6 +12,10 @@ use Rattle.languages.specs.Languages.{Pieces, In}
 use Rattle.languages.specs.Paths.{Path, Linked, end}
 use Rattle.languages.proofs.CellLaws.{Sums, Some, cell_sum, cell_min, cell_move, cell_least, cell_one, cell_none, cell_if, cell_unless}
 use Rattle.languages.proofs.Vias.{Via, closed_cells}
+
+-- the place of a link is one of the graph's
+pub linked_within : (g : Graph) (u a v : ℕ) (l : Linked g u a v) → l.0 < length g.places
+linked_within g u a v l = elim (cases_lt l.0 (length g.places)) [ inl lt ↦ lt | inr ge ↦ absurd (let past = get_or_past g.places l.0 None ge in cc (past, l.1)) ]
 
 pub path_start : (g : Graph) (u v : ℕ) (s : List Step) → Path g u s v → u < g.entries
 path_start g u v [] p = p.0
@@ -29,7 +35,7 @@ path_cut g u v (x ∷ s) t p = let c = path_cut g x.entry v s t p.2 in ((p.0, p.
 
 -- joining
 
-pub join_in : (g : Graph) (e f : Expr) (u v l : ℕ) → Some g.entries (λ m. Sums (Lengths g e u m) (Lengths g f m v)) l → Lengths g (join e f) u v l
+join_in : (g : Graph) (e f : Expr) (u v l : ℕ) → Some g.entries (λ m. Sums (Lengths g e u m) (Lengths g f m v)) l → Lengths g (join e f) u v l
 join_in g e f u v l w =
     let m = w.0 in
     let a = w.2.2 in
@@ -40,7 +46,7 @@ join_in g e f u v l w =
       simp length-append (omega (arith, a.2, b.2, w.2.4)),
     )
 
-join_out : (g : Graph) (e f : Expr) (u v l : ℕ) → Lengths g (join e f) u v l → Some g.entries (λ m. Sums (Lengths g e u m) (Lengths g f m v)) l
+pub join_out : (g : Graph) (e f : Expr) (u v l : ℕ) → Lengths g (join e f) u v l → Some g.entries (λ m. Sums (Lengths g e u m) (Lengths g f m v)) l
 join_out g e f u v l w =
     let i = w.1.1 in
     let s = i.0 in
@@ -82,12 +88,17 @@ plus_cells g e d h u v p q =
     (λ l w. (l, subst (λ (x : ℕ). Via (Lengths g e) g.entries u v x) w.2 (plus_out g e v w.1.1 w.1.0), omega arith))
     (closed_cells g.entries g.entries (omega arith) h u v p q)
 
+-- a path of `e` and then one of `e*`
+pub star_more : (g : Graph) (e : Expr) (u : ℕ) (s t : List Step) → In g e u s → In g (star e) (end u s) t → In g (star e) u (s ++ t)
+star_more g e u s t i (inl none) = inr (subst (λ (x : List Step). Pieces (In g e) u (s ++ x)) (sym none) (rw append-nil (Pieces.one i)))
+star_more g e u s t i (inr r) = inr (Pieces.more i r)
+
 -- `e*` is `(0|e)+`
 star_out : (g : Graph) (e : Expr) {u : ℕ} {s : List Step} → Pieces (In g (either epsilon e)) u s → In g (star e) u s
 star_out g e (Pieces.one (inl i)) = inl i
 star_out g e (Pieces.one (inr i)) = inr (Pieces.one i)
 star_out g e (Pieces.more {u = u} {s = s} {t = t} (inl i) r) = subst (λ (x : List Step). In g (star e) (end u x) t → In g (star e) u (x ++ t)) (sym i) (λ y. y) (star_out g e r)
-star_out g e (Pieces.more {u = u} {s = s} {t = t} (inr i) r) = ⊎_elim (λ y. inr (subst (λ (x : List Step). Pieces (In g e) u (s ++ x)) (sym y) (rw append-nil (Pieces.one i)))) (λ y. inr (Pieces.more i y)) (star_out g e r)
+star_out g e (Pieces.more {u = u} {s = s} {t = t} (inr i) r) = star_more g e u s t i (star_out g e r)
 
 star_in : (g : Graph) (e : Expr) {u : ℕ} {s : List Step} → Pieces (In g e) u s → Pieces (In g (either epsilon e)) u s
 star_in g e (Pieces.one i) = Pieces.one (inr i)
@@ -101,18 +112,18 @@ star_cells g e d h u v p q =
 
 -- the other forms
 
-epsilon_back : (g : Graph) (u v l : ℕ) (s : List Step) → Path g u s v → s ≡ [] → length s ≡ l → (l ≡ 0) × (eqb u v ≡ true)
-epsilon_back g u v l s p e h =
-    let p' = subst (λ (x : List Step). Path g u x v) e p in
-    (sym h ∙ ap length e, (Decides-eqb u v).1 p'.1)
+pub epsilon_back : (g : Graph) (u v l : ℕ) → Lengths g epsilon u v l → (l ≡ 0) × (u ≡ v)
+epsilon_back g u v l w =
+    let p' = subst (λ (x : List Step). Path g u x v) w.1.1 w.1.0 in
+    (sym w.2 ∙ ap length w.1.1, p'.1)
 
 pub epsilon_cells : (g : Graph) → Cells g.entries (Lengths g epsilon) (λ u v. cond (eqb u v) 0 none)
 epsilon_cells g u v p q =
     cell_move (λ l w. ([], ((p, (Decides-eqb u v).0 w.1), refl), sym w.0))
-    (λ l w. (l, epsilon_back g u v l w.0 w.1.0 w.1.1 w.2, omega arith))
+    (λ l w. (l, (let z = epsilon_back g u v l w in (z.0, (Decides-eqb u v).1 z.1)), omega arith))
     (cell_if (eqb u v) (cell_one 0 (omega arith)))
 
-letter_back : (g : Graph) (a u v l : ℕ) → Lengths g (letter a) u v l → (l ≡ 1) × Linked g u a v
+pub letter_back : (g : Graph) (a u v l : ℕ) → Lengths g (letter a) u v l → (l ≡ 1) × Linked g u a v
 letter_back g a u v l w =
     let i = w.1.1 in
     let p' = subst (λ (x : List Step). Path g u x v) i.1 w.1.0 in
@@ -135,7 +146,7 @@ either_cells g e f c d h k u v p q =
 tested : (g : Graph) (e : Expr) (b : Bool) (u v l : ℕ) → Lengths g e u v l × (g.same u v ≡ b) → (s : List Step) × (Path g u s v × (In g e u s × (g.same u (end u s) ≡ b))) × (length s ≡ l)
 tested g e b u v l w = (w.0.0, (w.0.1.0, (w.0.1.1, subst (λ (x : ℕ). g.same u x ≡ b) (sym (path_end g u v w.0.0 w.0.1.0)) w.1)), w.0.2)
 
-untested : (g : Graph) (e : Expr) (b : Bool) (u v l : ℕ) → (s : List Step) × (Path g u s v × (In g e u s × (g.same u (end u s) ≡ b))) × (length s ≡ l) → Lengths g e u v l × (g.same u v ≡ b)
+pub untested : (g : Graph) (e : Expr) (b : Bool) (u v l : ℕ) → (s : List Step) × (Path g u s v × (In g e u s × (g.same u (end u s) ≡ b))) × (length s ≡ l) → Lengths g e u v l × (g.same u v ≡ b)
 untested g e b u v l w = ((w.0, (w.1.0, w.1.1.0), w.2), subst (λ (x : ℕ). g.same u x ≡ b) (path_end g u v w.0 w.1.0) w.1.1.1)
 
 pub same_cells : (g : Graph) (e : Expr) (d : ℕ → ℕ → ℕ) → Cells g.entries (Lengths g e) d → Cells g.entries (Lengths g (same e)) (λ u v. cond (g.same u v) (d u v) none)

@@ -10,7 +10,7 @@ pub data Pieces (R : ℕ → List Step → Type 0) : ℕ → List Step → Type 
   one : {u : ℕ} {s : List Step} → R u s → Pieces R u s
   more : {u : ℕ} {s t : List Step} → R u s → Pieces R (end u s) t → Pieces R u (s ++ t)
 
--- the data path from u by the steps s is in the language of an expression
+-- the steps s from u are those of a path in the language of an expression; that there are links for them is said by `Path`
 abbrev pub In : Graph → Expr → ℕ → List Step → Type 0
 -- no step
 In g epsilon u s = s ≡ []

@@ -30,6 +30,13 @@ pair_line u v count path = decimal u ++ codes " " ++ decimal v ++ codes " " ++ d
 abbrev pub long_line : ℕ → ℕ → List ℕ
 long_line u v = decimal u ++ codes " " ++ decimal v ++ codes " long" ++ newline
 
+-- a line has at most so many bytes, and at most so many more for each step of a path
+abbrev pub most_line : ℕ
+most_line = 128
+
+abbrev pub most_step : ℕ
+most_step = 21
+
 -- the row that the making of a line is held to, for a buffer of so many bytes
 abbrev pub line_rows : List ℕ → ℕ → List Row
 line_rows text room = (nat_lt room (length text), TextTooShort) ∷ []

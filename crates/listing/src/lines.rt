@@ -1,7 +1,7 @@
 // The lines of an answer, and of a refusal.
-ghost use Rattle.std.specs.Prelude.{◌≡◌, ℕ, ◌+◌, ◌*◌, ◌≤◌, ◌++◌, length, flat_map};
-ghost use Rattle.listing.specs.Lines.{refusal_line, first_line, pair_line, long_line, newline, step_text, Lined};
-ghost use Rattle.listing.specs.Puts.{Put};
+ghost use Rattle.std.specs.Prelude.{◌≡◌, ℕ, ◌+◌, ◌*◌, ◌<◌, ◌≤◌, ◌++◌, length, flat_map};
+ghost use Rattle.listing.specs.Lines.{refusal_line, first_line, pair_line, long_line, newline, step_text, most_line, most_step, Lined};
+ghost use Rattle.listing.specs.Puts.{PutAt};
 
 use itoa::Buffer;
 use languages::step::Step;
@@ -10,7 +10,7 @@ use refusals::Refusal;
 // The line of a refusal: its number and its place, as `refused 13 at 6`.
 pub fn refusal_line(refusal: Refusal, out: &mut [u8]) -> Result<usize, Refusal>
     ensures lined { Lined (refusal_line refusal) out.old out.new result }
-    ensures short { length (refusal_line refusal) ≤ 128 }
+    ensures short { length (refusal_line refusal) ≤ most_line }
 {
     put_line(
         &[
@@ -27,7 +27,7 @@ pub fn refusal_line(refusal: Refusal, out: &mut [u8]) -> Result<usize, Refusal>
 // The first line of an answer: how many entries the book has, and how many pairs are joined, as `entries 4 pairs 3`.
 pub fn first_line(entries: usize, pairs: usize, out: &mut [u8]) -> Result<usize, Refusal>
     ensures lined { Lined (first_line entries pairs) out.old out.new result }
-    ensures short { length (first_line entries pairs) ≤ 128 }
+    ensures short { length (first_line entries pairs) ≤ most_line }
 {
     put_line(
         &[
@@ -50,7 +50,7 @@ pub fn pair_line(
     out: &mut [u8],
 ) -> Result<usize, Refusal>
     ensures lined { Lined (pair_line u v count path.now) out.old out.new result }
-    ensures short { length (pair_line u v count path.now) ≤ 128 + 21 * length path.now }
+    ensures short { length (pair_line u v count path.now) ≤ most_line + most_step * length path.now }
 {
     put_path(
         &[
@@ -70,7 +70,7 @@ pub fn pair_line(
 // The line of a pair whose paths are all long, as `0 2 long`.
 pub fn long_line(u: usize, v: usize, out: &mut [u8]) -> Result<usize, Refusal>
     ensures lined { Lined (long_line u v) out.old out.new result }
-    ensures short { length (long_line u v) ≤ 128 }
+    ensures short { length (long_line u v) ≤ most_line }
 {
     put_line(
         &[
@@ -99,9 +99,9 @@ fn put_line(pieces: &[&str], out: &mut [u8]) -> Result<usize, Refusal>
 // Puts the pieces of a line, then the steps of a path, and the end of the line, in the same way.
 #[tactic(auto, using(crate::proofs::Putting::putting))]
 fn put_path(pieces: &[&str], path: &[Step], out: &mut [u8]) -> Result<usize, Refusal>
-    requires { length (flat_map (λ piece. piece.now) pieces.now) ≤ 127 }
+    requires { length (flat_map (λ piece. piece.now) pieces.now) < most_line }
     ensures lined { Lined (flat_map (λ piece. piece.now) pieces.now ++ flat_map step_text path.now ++ newline) out.old out.new result }
-    ensures short { length (flat_map step_text path.now) ≤ 21 * length path.now }
+    ensures short { length (flat_map step_text path.now) ≤ most_step * length path.now }
 {
     let length = pieces_size(pieces) + path_size(path) + 1;
     if out.len() < length {
@@ -126,7 +126,7 @@ fn pieces_size(pieces: &[&str]) -> usize
 // How many bytes the texts of steps have. By a loop: a proof knows of each step that its entry is a number of the machine, and so that the sum is one.
 fn path_size(path: &[Step]) -> usize
     ensures is { result ≡ length (flat_map step_text path.now) }
-    ensures small { result ≤ 21 * length path.now }
+    ensures small { result ≤ most_step * length path.now }
 {
     let mut size = 0;
     for step in path {
@@ -139,7 +139,7 @@ fn path_size(path: &[Step]) -> usize
 #[tactic(auto, using(crate::proofs::Putting::putting))]
 fn put_step(step: Step, at: usize, out: &mut [u8]) -> usize
     requires { at + length (step_text step) ≤ length out.old }
-    ensures { Put (step_text step) at result out.old out.new }
+    ensures { PutAt (step_text step) at result out.old out.new }
 {
     let entry = put(&[step.letter], at, out);
     put(Buffer::new().format(step.entry).as_bytes(), entry, out)
@@ -149,7 +149,7 @@ fn put_step(step: Step, at: usize, out: &mut [u8]) -> usize
 #[tactic(auto, using(crate::proofs::Putting::putting))]
 fn put_pieces(pieces: &[&str], out: &mut [u8]) -> usize
     requires { length (flat_map (λ piece. piece.now) pieces.now) ≤ length out.old }
-    ensures { Put (flat_map (λ piece. piece.now) pieces.now) 0 result out.old out.new }
+    ensures { PutAt (flat_map (λ piece. piece.now) pieces.now) 0 result out.old out.new }
 {
     let mut at = 0;
     for piece in pieces {
@@ -161,7 +161,7 @@ fn put_pieces(pieces: &[&str], out: &mut [u8]) -> usize
 // Puts a piece at a place of a buffer in which it fits, and tells where it ends. By place: after a loop that splits the buffer, a proof knows no more than its length.
 fn put(piece: &[u8], at: usize, out: &mut [u8]) -> usize
     requires { at + length piece.now ≤ length out.old }
-    ensures { Put piece.now at result out.old out.new }
+    ensures { PutAt piece.now at result out.old out.new }
 {
     let end = at + piece.len();
     out[at..end].copy_from_slice(piece);

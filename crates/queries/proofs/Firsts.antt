@@ -9,7 +9,7 @@ use Rattle.std.proofs.lemmas.Nat.{row_fits, mul-add-lt, div-add-mod', mod_below,
 use Rattle.std.specs.List.{slice_range, position}
 use Rattle.languages.specs.Cells.{long}
 use Rattle.tables.specs.Blocks.{cell}
-use Rattle.queries.specs.Pairs.{First, FirstIs, From, Before, Near}
+use Rattle.queries.specs.Pairs.{First, FirstIs, From, Before, Reaches}
 
 -- the pairs in their order are the places in theirs
 from_place : (n u v a b : ℕ) → v ≤ n → From u v a b → u * n + v ≤ a * n + b
@@ -38,13 +38,13 @@ module _ (block rest : List ℕ) (n u v : ℕ) (size : length block ≡ n * n) (
       rw is
       (get_or-between block (u * n + v) (length block) (a * n + b - (u * n + v)) 0 (omega arith) ∙ ap (λ i. get_or block i 0) e)
 
-  pub first_none : position (λ c. leb c long) rest ≡ None → First (From u v) n (Near (cell block 0 n)) None
+  pub first_none : position (λ c. leb c long) rest ≡ None → First (From u v) n (Reaches (cell block 0 n)) None
   first_none e a b h k r s =
       let p = from_place n u v a b column r in
       let m = mul-add-lt a n b n h k in
       omega (arith, leb-false _ _ (all_far rest (a * n + b - (u * n + v)) e (omega (arith, rest_length))), rest_cell a b p m)
 
-  pub first_some : (i : ℕ) → position (λ c. leb c long) rest ≡ Some i → FirstIs (From u v) n (Near (cell block 0 n)) ((u * n + v + i) / n) ((u * n + v + i) % n)
+  pub first_some : (i : ℕ) → position (λ c. leb c long) rest ≡ Some i → FirstIs (From u v) n (Reaches (cell block 0 n)) ((u * n + v + i) / n) ((u * n + v + i) % n)
   first_some i e =
       let at = u * n + v + i in
       let p = position-Some (λ c. leb c long) rest i 0 e in

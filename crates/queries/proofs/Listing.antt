@@ -1,17 +1,18 @@
 -- All joined pairs in their order: cells that tell which pairs are joined give the list. Assumes nothing.
 use Rattle.std.proofs.Common.{◌≡◌, ℕ, zero, suc, ◌+◌, ◌<◌, ◌≤◌, Bool, true, false, cond, leb, ◌⊎◌, inl, inr, List, [], ◌∷◌, ◌++◌, length, length-append, append-nil, append_assoc, refl, sym, subst, arith}
 use Rattle.std.proofs.lemmas.Bool.{leb-true, leb-false}
-use Rattle.std.proofs.lemmas.List.{get_or_append_left, get_or_push, length_push}
-use Rattle.std.proofs.lemmas.List.Elements.{All-append, Contains-append_left, Contains-append_right}
+use Rattle.std.proofs.lemmas.List.Elements.{All-push, Contains-append_left, Contains-append_right}
+use Rattle.std.proofs.lemmas.List.Quantifiers.{all_pairs_push}
 use Rattle.std.specs.List.{All, AllPairs, Contains}
 use Rattle.expressions.specs.Exprs.{Expr}
 use Rattle.graphs.specs.Graphs.{Graph}
 use Rattle.languages.proofs.Walks.{path_start}
-use Rattle.languages.specs.Cells.{Cell, Lengths, long}
+use Rattle.languages.specs.Algebra.{Cells}
+use Rattle.languages.specs.Cells.{Lengths, long}
 use Rattle.languages.specs.Paths.{Path}
 use Rattle.languages.specs.declared.step.Step.{Step}
 use Rattle.queries.specs.Meanings.{IsJoined, JoinedPairs}
-use Rattle.queries.specs.Pairs.{Before, near, sum_to, tallied}
+use Rattle.queries.specs.Pairs.{Before, reaches, sum_to, tallied}
 
 -- the pairs before (x, y) of which P holds, in their order
 pub record Listed (P : ℕ → ℕ → Type 0) (x y : ℕ) (pairs : List (ℕ × ℕ)) : Type 0 where
@@ -19,10 +20,6 @@ pub record Listed (P : ℕ → ℕ → Type 0) (x y : ℕ) (pairs : List (ℕ ×
   pub before : All (λ pair. Before pair.0 pair.1 x y) pairs
   pub all : (u v : ℕ) → P u v → Before u v x y → Contains pairs (u, v)
   pub ordered : AllPairs (λ p q. Before p.0 p.1 q.0 q.1) pairs
-
-alone : {X : Type 0} (Q : X → Type 0) (a : X) → Q a → All Q (a ∷ [])
-alone Q a h zero d l = h
-alone Q a h (suc k) d l = absurd (omega arith)
 
 module _ (P : ℕ → ℕ → Type 0) where
   listed_none : Listed P 0 0 []
@@ -46,21 +43,12 @@ module _ (P : ℕ → ℕ → Type 0) where
           | inr same ↦ Contains-append_right pairs _ _ (0, omega arith, cc)
         ]
 
-    ordered_more : AllPairs (λ p q. Before p.0 p.1 q.0 q.1) (pairs ++ (x, y) ∷ [])
-    ordered_more i j d h k =
-        let first = get_or_append_left pairs ((x, y) ∷ []) d i (omega (arith, k, length_push pairs (x, y))) in
-        let c : (j < length pairs) ⊎ (j ≡ length pairs) = grind (arith, length_push pairs (x, y)) in
-        elim c [
-          | inl below ↦ rw (first, get_or_append_left pairs ((x, y) ∷ []) d j below) (l.ordered i j d h below)
-          | inr same ↦ rw (first, get_or_push pairs (x, y) d j (omega arith)) (l.before i d (omega arith))
-        ]
-
     listed_with : P x y → Listed P x (suc y) (pairs ++ (x, y) ∷ [])
     listed_with p = record {
-      holds = All-append (λ pair. P pair.0 pair.1) _ _ l.holds (alone (λ pair. P pair.0 pair.1) (x, y) p);
-      before = All-append (λ pair. Before pair.0 pair.1 x (suc y)) _ _ before_more (alone (λ pair. Before pair.0 pair.1 x (suc y)) (x, y) (inr (refl, omega arith)));
+      holds = All-push (λ pair. P pair.0 pair.1) pairs (x, y) l.holds p;
+      before = All-push (λ pair. Before pair.0 pair.1 x (suc y)) pairs (x, y) before_more (inr (refl, omega arith));
       all = all_more p;
-      ordered = ordered_more;
+      ordered = all_pairs_push (λ p q. Before p.0 p.1 q.0 q.1) pairs (x, y) l.ordered l.before;
     }
 
     without : (P x y → ⊥) → (u v : ℕ) → P u v → Before u v x (suc y) → Before u v x y
@@ -86,42 +74,42 @@ module _ (P : ℕ → ℕ → Type 0) where
   }
 
 -- the pairs of x and each entry below y whose cells tell of a path, in their order
-abbrev pub near_in_row : (ℕ → ℕ → ℕ) → ℕ → ℕ → List (ℕ × ℕ)
-near_in_row d x zero = []
-near_in_row d x (suc y) = near_in_row d x y ++ cond (leb (d x y) long) ((x, y) ∷ []) []
+abbrev pub reached_in_row : (ℕ → ℕ → ℕ) → ℕ → ℕ → List (ℕ × ℕ)
+reached_in_row d x zero = []
+reached_in_row d x (suc y) = reached_in_row d x y ++ cond (leb (d x y) long) ((x, y) ∷ []) []
 
 -- those of the first rows, among n entries
-abbrev pub near_pairs : (ℕ → ℕ → ℕ) → ℕ → ℕ → List (ℕ × ℕ)
-near_pairs d n zero = []
-near_pairs d n (suc x) = near_pairs d n x ++ near_in_row d x n
+abbrev pub reached_pairs : (ℕ → ℕ → ℕ) → ℕ → ℕ → List (ℕ × ℕ)
+reached_pairs d n zero = []
+reached_pairs d n (suc x) = reached_pairs d n x ++ reached_in_row d x n
 
-one_counted : (pairs : List (ℕ × ℕ)) (x y c : ℕ) (b : Bool) → leb c long ≡ b → length (pairs ++ cond b ((x, y) ∷ []) []) ≡ length pairs + near c
+one_counted : (pairs : List (ℕ × ℕ)) (x y c : ℕ) (b : Bool) → leb c long ≡ b → length (pairs ++ cond b ((x, y) ∷ []) []) ≡ length pairs + reaches c
 one_counted pairs x y c true e = rw e (length-append pairs ((x, y) ∷ []))
 one_counted pairs x y c false e = rw e (length-append pairs [])
 
-near_in_row_counted : (d : ℕ → ℕ → ℕ) (x y : ℕ) → length (near_in_row d x y) ≡ sum_to (λ v. near (d x v)) y
-near_in_row_counted d x zero = refl
-near_in_row_counted d x (suc y) = omega (arith, one_counted (near_in_row d x y) x y (d x y) (leb (d x y) long) refl, near_in_row_counted d x y)
+reached_in_row_counted : (d : ℕ → ℕ → ℕ) (x y : ℕ) → length (reached_in_row d x y) ≡ sum_to (λ v. reaches (d x v)) y
+reached_in_row_counted d x zero = refl
+reached_in_row_counted d x (suc y) = omega (arith, one_counted (reached_in_row d x y) x y (d x y) (leb (d x y) long) refl, reached_in_row_counted d x y)
 
-pub near_counted : (d : ℕ → ℕ → ℕ) (n x : ℕ) → length (near_pairs d n x) ≡ tallied d n x
-near_counted d n zero = refl
-near_counted d n (suc x) = omega (arith, length-append (near_pairs d n x) (near_in_row d x n), near_counted d n x, near_in_row_counted d x n)
+pub reached_counted : (d : ℕ → ℕ → ℕ) (n x : ℕ) → length (reached_pairs d n x) ≡ tallied d n x
+reached_counted d n zero = refl
+reached_counted d n (suc x) = omega (arith, length-append (reached_pairs d n x) (reached_in_row d x n), reached_counted d n x, reached_in_row_counted d x n)
 
 -- where a cell tells of a path just where P holds
-module _ (P : ℕ → ℕ → Type 0) (n : ℕ) (d : ℕ → ℕ → ℕ) (within : (u v : ℕ) → P u v → (u < n) × (v < n)) (near_is : (u v : ℕ) → u < n → v < n → d u v ≤ long → P u v) (is_near : (u v : ℕ) → P u v → d u v ≤ long) where
+module _ (P : ℕ → ℕ → Type 0) (n : ℕ) (d : ℕ → ℕ → ℕ) (within : (u v : ℕ) → P u v → (u < n) × (v < n)) (reached_is : (u v : ℕ) → u < n → v < n → d u v ≤ long → P u v) (is_reached : (u v : ℕ) → P u v → d u v ≤ long) where
   one_listed : (x y : ℕ) → x < n → y < n → (pairs : List (ℕ × ℕ)) → Listed P x y pairs → (b : Bool) → leb (d x y) long ≡ b → Listed P x (suc y) (pairs ++ cond b ((x, y) ∷ []) [])
-  one_listed x y h i pairs l true e = listed_with P x y pairs l (near_is x y h i (leb-true _ _ e))
-  one_listed x y h i pairs l false e = subst (Listed P x (suc y)) (sym (append-nil pairs)) (listed_without P x y pairs l (λ p. omega (arith, is_near x y p, leb-false _ _ e)))
+  one_listed x y h i pairs l true e = listed_with P x y pairs l (reached_is x y h i (leb-true _ _ e))
+  one_listed x y h i pairs l false e = subst (Listed P x (suc y)) (sym (append-nil pairs)) (listed_without P x y pairs l (λ p. omega (arith, is_reached x y p, leb-false _ _ e)))
 
-  row_listed : (x y : ℕ) → x < n → y ≤ n → (pairs : List (ℕ × ℕ)) → Listed P x 0 pairs → Listed P x y (pairs ++ near_in_row d x y)
+  row_listed : (x y : ℕ) → x < n → y ≤ n → (pairs : List (ℕ × ℕ)) → Listed P x 0 pairs → Listed P x y (pairs ++ reached_in_row d x y)
   row_listed x zero h i pairs l = subst (Listed P x 0) (sym (append-nil pairs)) l
   row_listed x (suc y) h i pairs l =
-      subst (Listed P x (suc y)) (append_assoc pairs (near_in_row d x y) _)
-      (one_listed x y h (omega arith) (pairs ++ near_in_row d x y) (row_listed x y h (omega arith) pairs l) (leb (d x y) long) refl)
+      subst (Listed P x (suc y)) (append_assoc pairs (reached_in_row d x y) _)
+      (one_listed x y h (omega arith) (pairs ++ reached_in_row d x y) (row_listed x y h (omega arith) pairs l) (leb (d x y) long) refl)
 
-  rows_listed : (x : ℕ) → x ≤ n → Listed P x 0 (near_pairs d n x)
+  rows_listed : (x : ℕ) → x ≤ n → Listed P x 0 (reached_pairs d n x)
   rows_listed zero h = listed_none P
-  rows_listed (suc x) h = listed_row P x n _ (λ u v p. (within u v p).1) (row_listed x n (omega arith) (omega arith) (near_pairs d n x) (rows_listed x (omega arith)))
+  rows_listed (suc x) h = listed_row P x n _ (λ u v p. (within u v p).1) (row_listed x n (omega arith) (omega arith) (reached_pairs d n x) (rows_listed x (omega arith)))
 
 -- a path stays among the entries
 path_stop : (g : Graph) (u v : ℕ) (s : List Step) → Path g u s v → v < g.entries
@@ -132,17 +120,17 @@ pub joined_within : (g : Graph) (e : Expr) (u v : ℕ) → IsJoined g e u v → 
 joined_within g e u v j = (path_start g u v j.0 j.1.0, path_stop g u v j.0 j.1.0)
 
 -- cells of an expression tell which pairs are joined
-module _ (g : Graph) (e : Expr) (d : ℕ → ℕ → ℕ) (cells : (u v : ℕ) → u < g.entries → v < g.entries → Cell (Lengths g e u v) (d u v)) where
-  pub near_joined : (u v : ℕ) → u < g.entries → v < g.entries → d u v ≤ long → IsJoined g e u v
-  near_joined u v h k l = let c = (cells u v h k).some (omega arith) in (c.1.0, c.1.1)
+module _ (g : Graph) (e : Expr) (d : ℕ → ℕ → ℕ) (cells : Cells g.entries (Lengths g e) d) where
+  pub reached_joined : (u v : ℕ) → u < g.entries → v < g.entries → d u v ≤ long → IsJoined g e u v
+  reached_joined u v h k l = let c = (cells u v h k).some (omega arith) in (c.1.0, c.1.1)
 
-  pub joined_near : (u v : ℕ) → IsJoined g e u v → d u v ≤ long
-  joined_near u v j =
+  pub joined_reached : (u v : ℕ) → IsJoined g e u v → d u v ≤ long
+  joined_reached u v j =
       let i = joined_within g e u v j in
       omega (arith, (cells u v i.0 i.1).least (length j.0) (j.0, j.1, refl))
 
   -- so they are listed by them
-  pub pairs_listed : JoinedPairs g e (near_pairs d g.entries g.entries)
+  pub pairs_listed : JoinedPairs g e (reached_pairs d g.entries g.entries)
   pairs_listed =
-      let l = rows_listed (IsJoined g e) g.entries d (joined_within g e) near_joined joined_near g.entries (omega arith) in
+      let l = rows_listed (IsJoined g e) g.entries d (joined_within g e) reached_joined joined_reached g.entries (omega arith) in
       record { joined = l.holds; all = λ u v j. l.all u v j (inl (joined_within g e u v j).0); ordered = l.ordered }

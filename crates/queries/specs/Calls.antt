@@ -1,5 +1,5 @@
 -- What each call of a query answers and leaves, on all inputs. Assumes nothing.
-use Rattle.std.specs.Prelude.{◌≡◌, ℕ, Bool, false, cond, not, ◌||◌, List, [], ◌∷◌, ◌++◌, length, Some, None, Ok, Err, Option, Result, ◌==◌, nat_le, nat_lt, is_none}
+use Rattle.std.specs.Prelude.{◌≡◌, ℕ, Bool, false, cond, not, ◌||◌, List, [], ◌∷◌, ◌++◌, length, Some, None, Ok, Err, Option, Result, ◌==◌, nat_le, nat_lt}
 use Rattle.expressions.specs.Wordings as wordings
 use Rattle.expressions.specs.declared.part.Parts.{Parts}
 use Rattle.graphs.specs.Graphs.{Graph}
@@ -7,19 +7,15 @@ use Rattle.languages.specs.Cells.{long}
 use Rattle.languages.specs.declared.step.Step.{Step}
 use Rattle.refusals.specs.Rows.{Row, first_refusal, ByRows}
 use Rattle.refusals.specs.declared.Refusal.{Refusal}
-use Rattle.refusals.specs.declared.Refusal.TheVariants.{QueryBlank, SourceTooLarge, TableTooShort, NotEvaluated, NoSuchEntry, TableCut, NoPath, OnlyLongPaths, StepsTooShort, TableAltered}
-use Rattle.tables.specs.Tables.{block_at, Filled}
-use Rattle.traces.specs.Choosing.{Taken}
+use Rattle.refusals.specs.declared.Refusal.TheVariants.{QueryBlank, NotEvaluated, NoSuchEntry, TableCut}
+use Rattle.tables.specs.Tables.{block_at, Filled, fill_rows}
+use Rattle.traces.specs.Tracing.{path_rows, TakenBy}
 use Rattle.queries.specs.declared.condition.Condition.{Condition}
 use Rattle.queries.specs.declared.condition.Condition.TheVariants.{Parsed}
 use Rattle.queries.specs.declared.found.Found.{Found}
 use Rattle.queries.specs.declared.found.Found.TheVariants.{Steps, Long, Absent}
 use Rattle.queries.specs.Conditions.{is_blank, is_evaluated, list_in, count_in, entries_in, evaluated, whole_cell, chosen_in}
-use Rattle.queries.specs.Pairs.{After, First, Near, tallied}
-
--- a source has at most so many entries
-abbrev pub most_entries : ℕ
-most_entries = 128
+use Rattle.queries.specs.Pairs.{After, First, Reaches, tallied}
 
 -- an accepted wording is stored, and drops what was evaluated; a refused one changes nothing
 abbrev pub Follows : Condition → Result Parts Refusal → Condition → Result Unit Refusal → Type 0
@@ -37,9 +33,7 @@ pub record Parses (q : Condition) (text : List ℕ) (q' : Condition) (r : Result
 abbrev pub evaluate_rows : Condition → Graph → List ℕ → List Row
 evaluate_rows q g table =
     (is_blank q, QueryBlank)
-    ∷ (nat_lt most_entries g.entries, SourceTooLarge)
-    ∷ (nat_lt (length table) (block_at g.entries (count_in q)), TableTooShort)
-    ∷ []
+    ∷ fill_rows g (count_in q) (length table)
 
 -- an evaluation: every cell of every part is that of its expression over the graph, and no other cell has changed; a refused one changes nothing
 abbrev pub Evaluates : Condition → Graph → List ℕ → Condition → List ℕ → Result Unit Refusal → Type 0
@@ -59,7 +53,7 @@ pair_rows q table pair =
     ∷ (nat_lt (length table) (block_at (entries_in q) (count_in q)), TableCut)
     ∷ []
 
--- what a cell tells: a count below 1,000, long at 1,000, none above
+-- what a cell tells: a count below 1,000, long at 1,000, absent above
 abbrev pub found_in : ℕ → Found
 found_in c = cond (nat_lt c long) (Steps c) (cond (c == long) Long Absent)
 
@@ -67,9 +61,9 @@ found_in c = cond (nat_lt c long) (Steps c) (cond (c == long) Long Absent)
 abbrev pub Looks : Condition → List ℕ → ℕ → ℕ → Result Found Refusal → Type 0
 Looks q table u v r = ByRows (pair_rows q table (Some (u, v))) r (λ f. f ≡ found_in (whole_cell q table u v))
 
--- a next: the first pair after the given one for which a lookup does not say none, or the end
+-- a next: the first pair after the given one for which a lookup does not say absent, or the end
 abbrev pub Nexts : Condition → List ℕ → Option (ℕ × ℕ) → Result (Option (ℕ × ℕ)) Refusal → Type 0
-Nexts q table given r = ByRows (pair_rows q table given) r (First (After given) (entries_in q) (Near (whole_cell q table)))
+Nexts q table given r = ByRows (pair_rows q table given) r (First (After given) (entries_in q) (Reaches (whole_cell q table)))
 
 -- a tally: the number of such pairs
 abbrev pub Tallies : Condition → List ℕ → Result ℕ Refusal → Type 0
@@ -77,15 +71,8 @@ Tallies q table r = ByRows (pair_rows q table None) r (λ k. k ≡ tallied (whol
 
 -- the rows that a trace is held to: those of a lookup, then what the cell tells, the room for the steps, and the cells that choose them
 abbrev pub trace_rows : Condition → List ℕ → ℕ → ℕ → ℕ → List Row
-trace_rows q table u v room =
-    pair_rows q table (Some (u, v))
-    ++ ((nat_lt long (whole_cell q table u v), NoPath)
-    ∷ (whole_cell q table u v == long, OnlyLongPaths)
-    ∷ (nat_lt room (whole_cell q table u v), StepsTooShort)
-    ∷ (is_none (chosen_in q table u v), TableAltered)
-    ∷ [])
+trace_rows q table u v room = pair_rows q table (Some (u, v)) ++ path_rows (whole_cell q table u v) room (chosen_in q table u v)
 
 -- a trace: the steps that are chosen, as many as the cell of the whole tells, stand at the front, and what lies behind them is as it was; a refused one changes nothing
 abbrev pub Traces : Condition → List ℕ → ℕ → ℕ → List Step → List Step → Result ℕ Refusal → Type 0
-Traces q table u v steps steps' (Ok k) = (first_refusal (trace_rows q table u v (length steps)) ≡ None) × (k ≡ whole_cell q table u v) × Taken (chosen_in q table u v) k steps steps'
-Traces q table u v steps steps' (Err x) = (first_refusal (trace_rows q table u v (length steps)) ≡ Some x) × (steps' ≡ steps)
+Traces q table u v steps steps' r = TakenBy (trace_rows q table u v (length steps)) (whole_cell q table u v) (chosen_in q table u v) steps steps' r

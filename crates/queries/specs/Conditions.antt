@@ -5,9 +5,7 @@ use Rattle.expressions.specs.Numbering.{part_expr}
 use Rattle.expressions.specs.Storing.{parts_of}
 use Rattle.expressions.specs.declared.part.Part.{Part}
 use Rattle.languages.specs.declared.step.Step.{Step}
-use Rattle.tables.specs.Blocks.{cell}
-use Rattle.tables.specs.Tables.{block_at}
-use Rattle.traces.specs.Choosing.{chosen}
+use Rattle.traces.specs.Choosing.{whole_count, whole_steps}
 use Rattle.queries.specs.declared.condition.Condition.{Condition}
 use Rattle.queries.specs.declared.condition.Condition.TheVariants.{Blank, Parsed, Evaluated}
 
@@ -27,10 +25,11 @@ list_in Blank = []
 list_in (Parsed p) = parts_of p
 list_in (Evaluated p n) = parts_of p
 
--- how many parts and entries there are, where no entries count before an evaluation
+-- how many parts there are
 abbrev pub count_in : Condition → ℕ
 count_in q = length (list_in q)
 
+-- how many entries it was evaluated over; 0 before that
 abbrev pub entries_in : Condition → ℕ
 entries_in Blank = 0
 entries_in (Parsed p) = 0
@@ -46,10 +45,10 @@ evaluated (Evaluated p m) n = Evaluated p n
 abbrev pub expr_in : Condition → Expr
 expr_in q = part_expr (list_in q) (count_in q - 1)
 
--- the cell of u and v for the whole expression: it lies in the block of the last part
+-- the cell of u and v for the whole expression
 abbrev pub whole_cell : Condition → List ℕ → ℕ → ℕ → ℕ
-whole_cell q table u v = cell table (block_at (entries_in q) (count_in q - 1)) (entries_in q) u v
+whole_cell q table u v = whole_count (list_in q) table (entries_in q) u v
 
--- the steps that the cells choose for the whole expression, or none where they are altered
+-- the steps that the cells choose for the whole expression, or none where they lead to no steps
 abbrev pub chosen_in : Condition → List ℕ → ℕ → ℕ → Option (List Step)
-chosen_in q table u v = chosen (list_in q) table (entries_in q) (count_in q - 1) u v
+chosen_in q table u v = whole_steps (list_in q) table (entries_in q) u v

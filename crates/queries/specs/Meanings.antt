@@ -14,7 +14,7 @@ use Rattle.queries.specs.declared.found.Found.TheVariants.{Steps, Long, Absent}
 use Rattle.queries.specs.Calls.{Looks, Traces}
 use Rattle.queries.specs.Pairs.{Before}
 
--- what is found of a pair is so: the count of one data path in the language that joins it, to which every other is at least equal; long where there are such paths, and all have 1,000 steps or more; none where there is none
+-- what is found of a pair is so: the count of one data path in the language that joins it, to which every other is at least equal; long where there are such paths, and all have 1,000 steps or more; absent where there is none
 abbrev pub Told : Graph → Expr → ℕ → ℕ → Found → Type 0
 Told g e u v (Steps k) = (k < long) × ((s : List Step) × Joined g e u v s × (length s ≡ k)) × ((s : List Step) → Joined g e u v s → k ≤ length s)
 Told g e u v Long = ((s : List Step) × Joined g e u v s) × ((s : List Step) → Joined g e u v s → long ≤ length s)

@@ -1,4 +1,4 @@
--- Pairs of entries in their order: the first of a kind, and their number. Assumes nothing.
+-- Pairs of entries in their order: the first of a kind, and their number. Of these `From` stands in no promise. Assumes nothing.
 use Rattle.std.specs.Prelude.{◌≡◌, ℕ, zero, suc, ◌+◌, ◌<◌, ◌≤◌, cond, ◌⊎◌, Some, None, Option, nat_le}
 use Rattle.languages.specs.Cells.{long}
 
@@ -29,11 +29,12 @@ First Reach n P None = (a b : ℕ) → a < n → b < n → Reach a b → P a b �
 First Reach n P (Some pair) = FirstIs Reach n P pair.0 pair.1
 
 -- a cell that tells of a path
-abbrev pub Near : (ℕ → ℕ → ℕ) → ℕ → ℕ → Type 0
-Near d u v = d u v ≤ long
+abbrev pub Reaches : (ℕ → ℕ → ℕ) → ℕ → ℕ → Type 0
+Reaches d u v = d u v ≤ long
 
-abbrev pub near : ℕ → ℕ
-near c = cond (nat_le c long) 1 0
+-- 1 for such a cell, and 0 for any other
+abbrev pub reaches : ℕ → ℕ
+reaches c = cond (nat_le c long) 1 0
 
 -- the sum of f k over each k below n
 abbrev pub sum_to : (ℕ → ℕ) → ℕ → ℕ
@@ -42,4 +43,4 @@ sum_to f (suc n) = sum_to f n + f n
 
 -- how many pairs of the first rows have a cell that tells of a path
 abbrev pub tallied : (ℕ → ℕ → ℕ) → ℕ → ℕ → ℕ
-tallied d n rows = sum_to (λ u. sum_to (λ v. near (d u v)) n) rows
+tallied d n rows = sum_to (λ u. sum_to (λ v. reaches (d u v)) n) rows

@@ -9,12 +9,11 @@ use crate::Query;
 use crate::condition::Condition;
 use crate::found::Found;
 use crate::scan::{first_from, tally};
-use crate::whole::{cells_needed, whole_block};
+use crate::whole::whole_block;
 use expressions::parse::parse;
 use graphs::source::Source;
 use languages::step::Step;
 use refusals::Refusal;
-use tables::cell::MOST_ENTRIES;
 use tables::evaluate::evaluate;
 use traces::trace::trace;
 
@@ -43,14 +42,10 @@ impl Query {
         ensures evaluated { Evaluates self.old (S.Source.graph source.now) table.old self.new table.new result }
         ensures meant { OnOk result (Meant (S.Source.graph source.now) (expr_in self.new) self.new table.new) }
     {
-        match (&self.condition, source.entries()) {
+        match (&self.condition, source) {
             (Condition::Blank, _) => Err(Refusal::QueryBlank),
-            (_, entries) if entries > MOST_ENTRIES => Err(Refusal::SourceTooLarge),
-            (Condition::Parsed(parts) | Condition::Evaluated { parts, .. }, entries) => {
-                if table.len() < cells_needed(parts.as_slice(), entries) {
-                    return Err(Refusal::TableTooShort);
-                }
-                evaluate(source, parts.as_slice(), table, entries);
+            (Condition::Parsed(parts) | Condition::Evaluated { parts, .. }, source) => {
+                let entries = evaluate(source, parts, table)?;
                 self.condition = Condition::Evaluated {
                     parts: *parts,
                     entries,
@@ -125,20 +120,7 @@ impl Query {
     {
         match (&self.condition, u, v) {
             (&Condition::Evaluated { ref parts, entries }, u, v) => {
-                if u >= entries || v >= entries {
-                    return Err(Refusal::NoSuchEntry);
-                }
-                let block = whole_block(parts.as_slice(), entries, table)?;
-                match Found::from(block[u * entries + v]) {
-                    Found::Absent => Err(Refusal::NoPath),
-                    Found::Long => Err(Refusal::OnlyLongPaths),
-                    Found::Steps(count) if steps.len() < count as usize => {
-                        Err(Refusal::StepsTooShort)
-                    }
-                    Found::Steps(_) => {
-                        trace(parts, table, entries, u, v, steps).ok_or(Refusal::TableAltered)
-                    }
-                }
+                trace(parts, table, entries, u, v, steps)
             }
             _ => Err(Refusal::NotEvaluated),
         }

@@ -3,6 +3,7 @@
 
 ghost use Rattle.std.specs.Prelude.{ℕ, ◌≤◌};
 ghost use Rattle.queries.specs.Conditions.{entries_in};
+ghost use Rattle.tables.specs.Limits.{most_entries};
 
 pub mod calls;
 pub mod condition;
@@ -17,7 +18,7 @@ use std::marker::Model;
 #[derive(Drop)]
 pub struct Query {
     condition: Condition,
-    ghost small: { entries_in condition ≤ 128 },
+    ghost small: { entries_in condition ≤ most_entries },
 }
 
 // Contracts see a query as its condition.

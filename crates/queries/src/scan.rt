@@ -1,12 +1,12 @@
 // Scans of a block for pairs that are joined.
 ghost use Rattle.std.specs.Prelude.{◌≡◌, ℕ, ◌+◌, ◌*◌, ◌≤◌, length, nat_le, position, count_by};
-ghost use Rattle.queries.specs.Pairs.{First, From, Near};
+ghost use Rattle.queries.specs.Pairs.{First, From, Reaches};
 ghost use Rattle.tables.specs.Blocks.{cell};
 
 use tables::cell::LONG;
 
 // Where the first cell that tells of a path stands.
-fn first_near(cells: &[u32]) -> Option<usize>
+fn first_reached(cells: &[u32]) -> Option<usize>
     ensures { result ≡ position (λ c. nat_le c LONG) cells.now }
 {
     cells.iter().position(|cell| *cell <= LONG)
@@ -17,11 +17,11 @@ pub(crate) fn first_from(block: &[u32], n: usize, u: usize, v: usize) -> Option<
     requires square { length block.now ≡ n * n }
     requires column { v ≤ n }
     requires within { u * n + v ≤ length block.now }
-    ensures { First (From u v) n (Near (cell block.now 0 n)) result }
+    ensures { First (From u v) n (Reaches (cell block.now 0 n)) result }
 {
     // The cells stand in the order of their pairs.
     let start = u * n + v;
-    let at = start + first_near(&block[start..])?;
+    let at = start + first_reached(&block[start..])?;
     Some((at / n, at % n))
 }
 

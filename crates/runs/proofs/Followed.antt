@@ -3,7 +3,7 @@ use Rattle.std.proofs.Common.{◌≡◌, ℕ, List, [], ◌∷◌, length, Ok, r
 use Rattle.queries.specs.declared.condition.Condition.{Condition}
 use Rattle.queries.specs.declared.condition.Condition.TheVariants.{Blank}
 use Rattle.runs.specs.Histories.{Event, next, History}
-use Rattle.runs.specs.Laws.{Standing, blank, parsed, evaluated, Obeys, WalksOn, Obeyed, Law}
+use Rattle.runs.specs.Laws.{Standing, blank, evaluated, Obeys, WalksOn, Obeyed}
 use Rattle.runs.specs.Laws as laws
 use Rattle.runs.specs.Runs.{Does, Run, new, call, RunsObey}
 use Rattle.runs.proofs.Obeying.{call_kept}

@@ -1,7 +1,6 @@
 -- How far a run of requests has come. Assumes nothing.
 use Rattle.std.proofs.Common.{◌≡◌, ℕ, ◌+◌, ◌-◌, ◌<◌, ◌≤◌, min, List, [], ◌∷◌, ◌++◌, length, get_or, take, drop, set, refl, ap, sym, ◌∙◌, append_assoc, arith}
-use Rattle.std.proofs.lemmas.List.{append-nil, drop-drop, drop-set-lt, drop_all, drop_at, length-append, length-drop, take_at, take_more, take_more_set}
-use borrow.Rule.Slice.PartMut.{put_mid, Post-is}
+use Rattle.std.proofs.lemmas.List.{drop-drop, drop-set-lt, drop_at, length-append, length-drop, take_at, take_more, take_more_set}
 use Rattle.graphs.specs.Graphs.{Graph}
 use Rattle.languages.specs.declared.step.Step.{Step}
 use Rattle.queries.specs.declared.condition.Condition.{Condition}
@@ -10,7 +9,7 @@ use Rattle.runs.specs.declared.request.Answer.{Answer}
 use Rattle.runs.specs.declared.request.Request.{Request}
 use Rattle.runs.specs.Histories.{History}
 use Rattle.runs.specs.Making.{Made}
-use Rattle.runs.specs.Requests.{Ran, Tells, Transcript, steps_in}
+use Rattle.runs.specs.Requests.{Ran, Transcript, steps_in}
 use Rattle.runs.specs.Requests as requests
 use Rattle.runs.specs.Runs.{Run}
 use Rattle.runs.specs.Runs as runs
@@ -39,10 +38,6 @@ going_new graph asked table steps answers q is = record {
   steps_are = refl;
   behind = refl;
 }
-
--- what is put at the end of a list
-pub put_last : {X : Type 0} (a : ℕ) (xs ys : List X) → a ≤ length xs → put_mid a (length xs - a) xs ys ≡ take a xs ++ ys
-put_last a xs ys h = ap (λ zs. take a xs ++ (ys ++ zs)) (Post-is a (length xs) xs h ∙ drop_all (length xs) xs (omega arith)) ∙ ap (λ zs. take a xs ++ zs) (append-nil ys)
 
 -- one more
 module _ {S : Type 0} (graph : S → Graph) (asked : List (Request S)) (table₀ table table' : List ℕ) (steps₀ steps rest : List Step) (answers₀ answers : List Answer) (i written : ℕ) (q q' : Condition) (request : Request S) (answer : Answer) (k : Going graph asked table₀ table steps₀ steps answers₀ answers i written q) (m : Made graph request q q' table table' (drop written steps) rest answer) where

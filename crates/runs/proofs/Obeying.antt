@@ -1,35 +1,36 @@
 -- Each call that its contract describes obeys the law, and leaves a query that stands so. Assumes nothing.
-use Rattle.std.proofs.Common.{◌≡◌, ℕ, ◌-◌, ◌<◌, ◌≤◌, Bool, true, false, ◌==◌, nat_lt, List, [], ◌∷◌, ◌++◌, length, take, drop, is_none, inl, inr, Option, Some, None, Result, Ok, Err, refl, ap, sym, ◌∙◌, arith}
-use Rattle.std.proofs.lemmas.Bool.{le-ltb, cases_order}
+use Rattle.std.proofs.Common.{◌≡◌, ℕ, ◌<◌, ◌≤◌, Bool, true, false, ◌==◌, nat_lt, List, [], ◌++◌, length, take, drop, inl, inr, Option, Some, None, Result, Ok, Err, refl, ap, sym, ◌∙◌, arith}
+use Rattle.std.proofs.lemmas.Bool.{le-ltb, ltb-true, ltb-false, cases_order}
 use Rattle.std.proofs.lemmas.Bool.Decides.{nat_tests}
 use Rattle.std.proofs.lemmas.List.{take_at}
 use Rattle.std.specs.Bool.{MatchBool}
 use Rattle.std.specs.Result.{IsOkAnd}
-use Rattle.expressions.specs.Exprs.{Expr, size}
+use Rattle.expressions.proofs.Judged.{stored_size}
+use Rattle.expressions.specs.Exprs.{Expr}
 use Rattle.expressions.specs.Storing.{Stored, parts_of}
-use Rattle.expressions.specs.Wordings as wordings
 use Rattle.expressions.specs.declared.part.Parts.{Parts}
 use Rattle.graphs.specs.Graphs.{Graph}
 use Rattle.languages.specs.Cells.{long}
 use Rattle.languages.specs.Languages.{Joined}
 use Rattle.languages.specs.declared.step.Step.{Step}
-use Rattle.queries.specs.Calls.{Follows, Evaluates, Looks, Nexts, Tallies, Traces, found_in, outside, pair_rows, trace_rows}
+use Rattle.queries.specs.Calls.{Parses, Evaluates, Looks, Nexts, Tallies, Traces, found_in, outside, pair_rows, trace_rows}
 use Rattle.queries.specs.Conditions.{entries_in, whole_cell, chosen_in}
 use Rattle.queries.specs.Meanings.{Told, IsJoined}
-use Rattle.queries.specs.Pairs.{After, First, Near, tallied}
+use Rattle.queries.specs.Pairs.{After, First, Reaches, tallied}
 use Rattle.queries.specs.declared.found.Found.{Found}
-use Rattle.queries.proofs.Meaning.{cell_told}
+use Rattle.queries.proofs.Meaning.{cell_told, whole_joins, parse_told}
+use Rattle.queries.proofs.Tracing as tracing
 use Rattle.queries.specs.declared.condition.Condition.{Condition}
 use Rattle.queries.specs.declared.condition.Condition.TheVariants.{Blank, Parsed, Evaluated}
 use Rattle.refusals.specs.Rows.{Row, first_refusal, ByRows}
 use Rattle.refusals.specs.declared.Refusal.{Refusal}
-use Rattle.refusals.specs.declared.Refusal.TheVariants.{NotEvaluated, NoSuchEntry, NoPath, OnlyLongPaths, StepsTooShort, TableAltered}
+use Rattle.refusals.specs.declared.Refusal.TheVariants.{NotEvaluated, NoSuchEntry, NoPath, OnlyLongPaths, StepsTooShort}
 use Rattle.tables.specs.Tables.{block_at, Filled}
+use Rattle.traces.specs.Tracing.{path_rows}
 use Rattle.runs.specs.Histories.{Event, parse, evaluate, lookup, next, tally, trace}
 use Rattle.runs.specs.Laws.{Standing, blank, parsed, evaluated, Obeys, Asks, Counted, Traced}
 use Rattle.runs.specs.Runs.{Does, TracesWith, written}
-use Rattle.traces.proofs.Joins.{chosen_joins}
-use Rattle.runs.proofs.Standings.{Shown, Stands, stored_size, cell_shown, first_joined, pairs_counted}
+use Rattle.runs.proofs.Standings.{Shown, Stands, cell_shown, first_joined, pairs_counted}
 
 -- a call obeys the law, and the query stands to what follows
 pub record Kept (s : Standing) (t : List ℕ) (x : Event) (q' : Condition) (t' : List ℕ) : Type 0 where
@@ -43,18 +44,13 @@ stays s w a b = rw (a, b) w
 
 -- a parse
 
-parse_kept : (s : Standing) (q : Condition) (t text : List ℕ) (judged : Result Parts Refusal) (r : Result Unit Refusal) (q' : Condition) (t' : List ℕ) → Stands s q t → wordings.Parsed text judged → Follows q judged q' r → t' ≡ t → Kept s t (parse text r) q' t'
-parse_kept s q t text (Ok p) (Ok done) q' t' w a f k = record {
-  standing = parsed a.expr;
-  obeys = (a.expr, record { means = a.means; short = a.short; few = a.few }, refl);
-  stands = (p, f.0, a.stored);
-  same = ap length k;
-}
-parse_kept s q t text (Ok p) (Err x) q' t' w a f k = absurd (cc f.1)
-parse_kept s q t text (Err y) (Ok done) q' t' w a f k = absurd (cc f.1)
-parse_kept s q t text (Err y) (Err x) q' t' w a f k =
-    let e : y ≡ x = cc f.1 in
-    record { standing = s; obeys = (rw (← e) a, refl); stands = stays s w f.0 k; same = ap length k }
+parse_kept : (s : Standing) (q : Condition) (t text : List ℕ) (r : Result Unit Refusal) (q' : Condition) (t' : List ℕ) → Stands s q t → Parses q text q' r → t' ≡ t → Kept s t (parse text r) q' t'
+parse_kept s q t text (Ok done) q' t' w p k =
+    let a = parse_told q text q' (Ok done) p in
+    record { standing = parsed a.1.expr; obeys = (a.1.expr, a.1.worded, refl); stands = (a.0, a.2, a.1.stored); same = ap length k }
+parse_kept s q t text (Err x) q' t' w p k =
+    let a = parse_told q text q' (Err x) p in
+    record { standing = s; obeys = (a.0, refl); stands = stays s w a.1 k; same = ap length k }
 
 -- an evaluation
 
@@ -131,17 +127,13 @@ lookup_obeys s q t u v r w h =
 
 next_obeys : (s : Standing) (q : Condition) (t : List ℕ) (given : Option (ℕ × ℕ)) (r : Result (Option (ℕ × ℕ)) Refusal) → Stands s q t → Nexts q t given r → Obeys (length t) s (next given r) s
 next_obeys s q t given r w h =
-    (asks t given r (λ q. []) (λ q. First (After given) (entries_in q) (Near (whole_cell q t))) (λ g e. IsOkAnd r (First (After given) g.entries (IsJoined g e))) (λ e g p sh o b. accepted r _ _ (λ a f. first_joined e g p t sh (After given) a f) b) s q w h, refl)
+    (asks t given r (λ q. []) (λ q. First (After given) (entries_in q) (Reaches (whole_cell q t))) (λ g e. IsOkAnd r (First (After given) g.entries (IsJoined g e))) (λ e g p sh o b. accepted r _ _ (λ a f. first_joined e g p t sh (After given) a f) b) s q w h, refl)
 
 tally_obeys : (s : Standing) (q : Condition) (t : List ℕ) (r : Result ℕ Refusal) → Stands s q t → Tallies q t r → Obeys (length t) s (tally r) s
 tally_obeys s q t r w h =
     (asks t None r (λ q. []) (λ q k. k ≡ tallied (whole_cell q t) (entries_in q) (entries_in q)) (λ g e. IsOkAnd r (Counted g e)) (λ e g p sh o b. accepted r _ _ (λ k is. let l = pairs_counted e g p t sh in (l.0, l.1, l.2 ∙ sym is)) b) s q w h, refl)
 
 -- a trace
-
--- the rows of a trace behind those of a lookup, by the cell and the steps that are chosen
-abbrev path_rows : ℕ → Option (List Step) → ℕ → List Row
-path_rows c found room = (nat_lt long c, NoPath) ∷ (c == long, OnlyLongPaths) ∷ (nat_lt room c, StepsTooShort) ∷ (is_none found, TableAltered) ∷ []
 
 -- the steps of a trace are those that are chosen
 abbrev Chosen : ℕ → Option (List Step) → List Step → Type 0
@@ -155,45 +147,40 @@ trace_rows_of q t u v room r steps steps' (Ok k) size h gives =
 trace_rows_of q t u v room r steps steps' (Err x) size h gives = rw (gives, ← size) h.0
 
 module _ (g : Graph) (e : Expr) (u v room c : ℕ) (found : Option (List Step)) (r : Result (List Step) Refusal) where
-  in_room : (s : List Step) → found ≡ Some s → Joined g e u v s → length s ≡ c → (b : Bool) → nat_lt room c ≡ b → nat_lt long c ≡ false → (c == long) ≡ false → ByRows (path_rows c found room) r (Chosen c found) → MatchBool b (r ≡ Err StepsTooShort) (IsOkAnd r (λ s. Joined g e u v s × (length s ≡ c)))
-  in_room s is j n true b a o h = refused_by (path_rows c found room) StepsTooShort r (Chosen c found) (rw (a, o, b) refl) h
-  in_room s is j n false b a o h =
-      accepted r (Chosen c found) _ (λ s' w. let same : s ≡ s' = cc (is, w.0) in (rw (← same) j, w.1)) (left_rows (path_rows c found room) [] r (Chosen c found) (rw (a, o, b, is) refl) h)
+  in_room : (s : List Step) → found ≡ Some s → Joined g e u v s → length s ≡ c → c < long → (b : Bool) → nat_lt room c ≡ b → ByRows (path_rows c room found) r (Chosen c found) → MatchBool b (r ≡ Err StepsTooShort) (IsOkAnd r (λ s. Joined g e u v s × (length s ≡ c)))
+  in_room s is j n lt true b h = refused_by (path_rows c room found) StepsTooShort r (Chosen c found) (tracing.no_room c room found lt (ltb-true _ _ b)) h
+  in_room s is j n lt false b h =
+      accepted r (Chosen c found) _ (λ s' w. let same : s ≡ s' = cc (is, w.0) in (rw (← same) j, w.1)) (left_rows (path_rows c room found) [] r (Chosen c found) (tracing.accepted c room found s lt (ltb-false _ _ b) is) h)
 
-  traced : (c < long → (s : List Step) × (found ≡ Some s) × Joined g e u v s × (length s ≡ c)) → ByRows (path_rows c found room) r (Chosen c found) → Traced g e u v room r (found_in c)
+  traced : (c < long → (s : List Step) × (found ≡ Some s) × Joined g e u v s × (length s ≡ c)) → ByRows (path_rows c room found) r (Chosen c found) → Traced g e u v room r (found_in c)
   traced chosen h = elim (cases_order c long) [
     | inl is ↦
-        let a : nat_lt long c ≡ false = grind (arith, nat_tests) in
         let b : nat_lt c long ≡ false = grind (arith, nat_tests) in
         let o : (c == long) ≡ true = grind (arith, nat_tests) in
-        rw (b, o) (refused_by (path_rows c found room) OnlyLongPaths r (Chosen c found) (rw (a, o) refl) h)
+        rw (b, o) (refused_by (path_rows c room found) OnlyLongPaths r (Chosen c found) (tracing.only_long c room found is) h)
     | inr (inl lt) ↦
-        let a : nat_lt long c ≡ false = grind (arith, nat_tests) in
         let b : nat_lt c long ≡ true = grind (arith, nat_tests) in
-        let o : (c == long) ≡ false = grind (arith, nat_tests) in
         let s = chosen lt in
-        rw b (in_room s.0 s.1 s.2 s.3 (nat_lt room c) refl a o h)
+        rw b (in_room s.0 s.1 s.2 s.3 lt (nat_lt room c) refl h)
     | inr (inr gt) ↦
-        let a : nat_lt long c ≡ true = grind (arith, nat_tests) in
         let b : nat_lt c long ≡ false = grind (arith, nat_tests) in
         let o : (c == long) ≡ false = grind (arith, nat_tests) in
-        rw (b, o) (refused_by (path_rows c found room) NoPath r (Chosen c found) (rw a refl) h)
+        rw (b, o) (refused_by (path_rows c room found) NoPath r (Chosen c found) (tracing.absent c room found gt) h)
   ]
 
 trace_obeys : (s : Standing) (q : Condition) (t : List ℕ) (u v room : ℕ) (r : Result (List Step) Refusal) → Stands s q t → TracesWith q t u v room r → Obeys (length t) s (trace u v room r) s
 trace_obeys s q t u v room r w h = (
-  asks t (Some (u, v)) r (λ q. path_rows (whole_cell q t u v) (chosen_in q t u v) room) (λ q. Chosen (whole_cell q t u v) (chosen_in q t u v)) (λ g e. (f : Found) × Told g e u v f × Traced g e u v room r f) (λ e g p sh o b.
+  asks t (Some (u, v)) r (λ q. path_rows (whole_cell q t u v) room (chosen_in q t u v)) (λ q. Chosen (whole_cell q t u v) (chosen_in q t u v)) (λ g e. (f : Found) × Told g e u v f × Traced g e u v room r f) (λ e g p sh o b.
       let i = within g.entries u v o in
       let c = whole_cell (Evaluated p g.entries) t u v in
-      let l : length (parts_of p) - 1 < length (parts_of p) = omega (arith, p.some) in
-      (found_in c, cell_told g e u v c (cell_shown e g p t sh u v i.0 i.1), traced g e u v room c (chosen_in (Evaluated p g.entries) t u v) r (λ lt. rw sh.stored.decodes at (chosen_joins g (parts_of p) t p.formed sh.shows (length (parts_of p) - 1) u v l i.0 i.1 lt)) b)) s q w (trace_rows_of q t u v room r h.steps h.steps' h.answer h.size h.traces h.gives),
+      (found_in c, cell_told g e u v c (cell_shown e g p t sh u v i.0 i.1), traced g e u v room c (chosen_in (Evaluated p g.entries) t u v) r (λ lt. rw sh.stored.decodes at (whole_joins g p t sh.shows u v i.0 i.1 lt)) b)) s q w (trace_rows_of q t u v room r h.steps h.steps' h.answer h.size h.traces h.gives),
   refl,
 )
 
 -- any call
 
 pub call_kept : (s : Standing) (q : Condition) (t : List ℕ) (x : Event) (q' : Condition) (t' : List ℕ) → Stands s q t → Does q t x q' t' → Kept s t x q' t'
-call_kept s q t (parse text r) q' t' w d = parse_kept s q t text d.0.judged r q' t' w d.0.parsed d.0.follows d.1
+call_kept s q t (parse text r) q' t' w d = parse_kept s q t text r q' t' w d.0 d.1
 call_kept s q t (evaluate g r) q' t' w d = evaluate_kept s q t g r q' t' w d
 call_kept s q t (lookup u v r) q' t' w d = question_kept s w d.1 d.2 (lookup_obeys s q t u v r w d.0)
 call_kept s q t (next given r) q' t' w d = question_kept s w d.1 d.2 (next_obeys s q t given r w d.0)

@@ -1,19 +1,20 @@
--- The law that histories obey: by it each call is answered as the wordings and the sources say, whatever a table or a query is inside. Assumes nothing.
-use Rattle.std.specs.Prelude.{◌≡◌, ℕ, ◌*◌, Bool, true, false, List, [], ◌∷◌, length, take, reverse, slice_get, Some, None, Ok, Err, Option, Result, nat_lt, IsOkAnd}
+-- The law that histories obey: by it each call is answered as the wordings and the sources say. It speaks of what no cell holds, and of no query's condition. Assumes nothing.
+use Rattle.std.specs.Prelude.{◌≡◌, ℕ, Bool, true, false, List, [], ◌∷◌, length, take, reverse, slice_get, Some, None, Ok, Err, Option, Result, nat_lt, IsOkAnd}
 use Rattle.std.specs.Bool.{MatchBool}
 use Rattle.expressions.specs.Exprs.{Expr, size}
 use Rattle.expressions.specs.Wordings.{Worded, Refused}
 use Rattle.graphs.specs.Graphs.{Graph}
 use Rattle.languages.specs.Languages.{Joined}
 use Rattle.languages.specs.declared.step.Step.{Step}
-use Rattle.queries.specs.Calls.{most_entries, outside}
+use Rattle.queries.specs.Calls.{outside}
 use Rattle.queries.specs.Meanings.{Told, IsJoined, JoinedPairs}
 use Rattle.queries.specs.Pairs.{After, First}
 use Rattle.queries.specs.declared.found.Found.{Found}
 use Rattle.queries.specs.declared.found.Found.TheVariants.{Steps, Long, Absent}
 use Rattle.refusals.specs.Rows.{Row, first_refusal}
 use Rattle.refusals.specs.declared.Refusal.{Refusal}
-use Rattle.refusals.specs.declared.Refusal.TheVariants.{QueryBlank, SourceTooLarge, TableTooShort, NotEvaluated, NoSuchEntry, NoPath, OnlyLongPaths, StepsTooShort}
+use Rattle.refusals.specs.declared.Refusal.TheVariants.{QueryBlank, NotEvaluated, NoSuchEntry, NoPath, OnlyLongPaths, StepsTooShort}
+use Rattle.tables.specs.Tables.{fill_rows}
 use Rattle.runs.specs.Histories.{Event, parse, evaluate, lookup, next, tally, trace, History}
 
 -- what the calls so far have come to: the expression that was last parsed, and the graph that it was last evaluated over since
@@ -37,9 +38,7 @@ parts (evaluated e g) = size e
 abbrev pub evaluation_rows : ℕ → Standing → Graph → List Row
 evaluation_rows cells s g =
     (is_blank s, QueryBlank)
-    ∷ (nat_lt most_entries g.entries, SourceTooLarge)
-    ∷ (nat_lt cells (parts s * (g.entries * g.entries)), TableTooShort)
-    ∷ []
+    ∷ fill_rows g (parts s) cells
 
 -- the same expression, evaluated over a graph
 abbrev pub evaluated_over : Graph → Standing → Standing

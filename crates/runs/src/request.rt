@@ -2,7 +2,6 @@
 ghost use Rattle.std.specs.Prelude.{◌≡◌};
 ghost use Rattle.runs.specs.Requests.{steps_in};
 
-use languages::step::Step;
 use queries::found::Found;
 use refusals::Refusal;
 

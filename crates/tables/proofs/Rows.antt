@@ -1,16 +1,22 @@
 -- Blocks that are written row by row. Assumes nothing.
-use Rattle.std.proofs.Common.{◌≡◌, ℕ, ◌+◌, ◌-◌, ◌*◌, ◌<◌, ◌≤◌, ◌⊎◌, List, length, get_or, subst, ◌∙◌, inl, inr, mul-le-mul_right, arith}
+use Rattle.std.proofs.Common.{◌≡◌, ℕ, ◌+◌, ◌-◌, ◌*◌, ◌<◌, ◌≤◌, min, ◌⊎◌, List, ◌++◌, length, get_or, take, ap, subst, ◌∙◌, inl, inr, append-nil, mul-le-mul_right, arith}
 use Rattle.std.proofs.lemmas.Bool.{cases_lt}
-use Rattle.std.proofs.lemmas.List.{places}
+use Rattle.std.proofs.lemmas.List.{places, drop_all}
 use Rattle.std.proofs.lemmas.List.Edits.{get_or-between}
 use Rattle.std.specs.List.{between}
-use borrow.Rule.Slice.PartMut.{put_mid}
+use Rattle.languages.specs.Algebra.{sat_add}
+use borrow.Rule.Slice.PartMut.{put_mid, Post-is}
 use Rattle.tables.specs.Blocks.{block_cell}
 
 -- the first u rows of a block are written, and the others are as they were
 pub record Rows (n u : ℕ) (F : ℕ → ℕ → ℕ) (block block' : List ℕ) : Type 0 where
   pub done : (s v : ℕ) → s < u → v < n → block_cell n block' s v ≡ F s v
   pub rest : (s v : ℕ) → u ≤ s → s < n → v < n → block_cell n block' s v ≡ block_cell n block s v
+
+-- the first v cells of a row are made smaller by going over a middle, and the others are as they were
+pub record Lowered (v first : ℕ) (middle row row' : List ℕ) : Type 0 where
+  pub done : (k : ℕ) → k < v → get_or row' k 0 ≡ min (get_or row k 0) (sat_add first (get_or middle k 0))
+  pub rest : (k : ℕ) → v ≤ k → get_or row' k 0 ≡ get_or row k 0
 
 -- the rows before a row end where it begins
 pub row_end : (u n m : ℕ) → u < m → u * n + n ≤ m * n
@@ -32,6 +38,10 @@ over_in a k i xs ys h l = search (places, arith)
 
 pub over_behind : (a k i : ℕ) (xs ys : List ℕ) → a + k ≤ i → a ≤ length xs → length ys ≡ k → get_or (put_mid a k xs ys) i 0 ≡ get_or xs i 0
 over_behind a k i xs ys h l e = search (places, arith)
+
+-- what is put at the end of a list
+pub put_last : {X : Type 0} (a : ℕ) (xs ys : List X) → a ≤ length xs → put_mid a (length xs - a) xs ys ≡ take a xs ++ ys
+put_last a xs ys h = ap (λ zs. take a xs ++ (ys ++ zs)) (Post-is a (length xs) xs h ∙ drop_all (length xs) xs (omega arith)) ∙ ap (λ zs. take a xs ++ zs) (append-nil ys)
 
 -- row u is written over
 pub row_over : (n u : ℕ) (F : ℕ → ℕ → ℕ) (block₀ block row : List ℕ) → u < n → length block ≡ n * n → length row ≡ n → ((v : ℕ) → v < n → get_or row v 0 ≡ F u v) → Rows n u F block₀ block → Rows n (u + 1) F block₀ (put_mid (u * n) ((u + 1) * n - u * n) block row)

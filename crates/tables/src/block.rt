@@ -1,6 +1,7 @@
 // Blocks: the cells of one part.
 ghost use Rattle.std.specs.Prelude.{◌≡◌, ℕ, ◌*◌, ◌≤◌, min, length, if◌then◌else◌, nat_eq};
 ghost use Rattle.languages.specs.Cells.{none};
+ghost use Rattle.tables.specs.Limits.{most_entries};
 
 use crate::cell::NONE;
 
@@ -9,7 +10,7 @@ use crate::cell::NONE;
 pub(crate) struct Block<'a> {
     pub(crate) cells: &'a mut [u32],
     pub(crate) n: usize,
-    ghost few: { n ≤ 128 },
+    ghost few: { n ≤ most_entries },
     ghost square: { length cells.now ≡ n * n },
 }
 

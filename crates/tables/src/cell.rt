@@ -3,6 +3,9 @@
 // Stands for every count of steps from 1,000 on.
 pub const LONG: u32 = 1000;
 
+// The most steps that a cell counts.
+pub const MOST_STEPS: usize = LONG as usize - 1;
+
 // Stands for no path.
 pub const NONE: u32 = 1001;
 

@@ -1,14 +1,19 @@
 // The evaluation of an expression, part by part.
 ghost use Rattle.std.specs.Prelude.{◌≡◌, ℕ, ◌+◌, ◌*◌, ◌<◌, ◌≤◌, true, length, take, drop};
+ghost use Rattle.expressions.specs.Grammar.{most_parts};
 ghost use Rattle.expressions.specs.Numbering.{part_expr, well_formed};
+ghost use Rattle.expressions.specs.Storing.{parts_of};
 ghost use Rattle.languages.specs.Algebra.{Cells};
 ghost use Rattle.languages.specs.Cells.{Lengths};
 ghost use Rattle.tables.specs.Blocks.{block_cell, SamePlace};
-ghost use Rattle.tables.specs.Tables.{block_at, AllShow, Filled};
+ghost use Rattle.tables.specs.Limits.{most_entries};
+ghost use Rattle.tables.specs.Tables.{block_at, AllShow, Filled, Fills};
 
 use crate::block::Block;
-use expressions::part::Part;
+use crate::cell::MOST_ENTRIES;
+use expressions::part::{Part, Parts};
 use graphs::source::Source;
+use refusals::Refusal;
 
 // The block of part k among those that are filled.
 fn block_of(done: &[u32], k: usize, size: usize) -> &[u32]
@@ -57,10 +62,10 @@ impl Block<'_> {
 }
 
 // Fills the block of every part.
-pub fn evaluate<S: Source>(source: &S, parts: &[Part], table: &mut [u32], n: usize)
+fn fill_blocks<S: Source>(source: &S, parts: &[Part], table: &mut [u32], n: usize)
     requires entries { n ≡ (S.Source.graph source.now).entries }
-    requires few { n ≤ 128 }
-    requires short { length parts.now ≤ 32 }
+    requires few { n ≤ most_entries }
+    requires short { length parts.now ≤ most_parts }
     requires formed { well_formed 0 parts.now ≡ true }
     requires room { block_at n (length parts.now) ≤ length table.old }
     ensures { Filled (S.Source.graph source.now) parts.now (length parts.now) table.old table.new }
@@ -73,4 +78,20 @@ pub fn evaluate<S: Source>(source: &S, parts: &[Part], table: &mut [u32], n: usi
         let mut block = Block { cells, n };
         block.fill(source, parts, q, done);
     }
+}
+
+// Evaluates the parts of an expression over a source, and tells how many entries this has; or is refused, and changes nothing.
+pub fn evaluate<S: Source>(source: &S, parts: &Parts, table: &mut [u32]) -> Result<usize, Refusal>
+    ensures { Fills (S.Source.graph source.now) (parts_of parts.now) table.old table.new result }
+{
+    let n = source.entries();
+    if n > MOST_ENTRIES {
+        return Err(Refusal::SourceTooLarge);
+    }
+    let parts = parts.as_slice();
+    if table.len() < parts.len() * (n * n) {
+        return Err(Refusal::TableTooShort);
+    }
+    fill_blocks(source, parts, table, n);
+    Ok(n)
 }

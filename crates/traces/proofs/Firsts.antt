@@ -35,7 +35,3 @@ first_found m (suc n) t lt e h = elim (cases_lt m n) [
   | inr more ↦ (let s : m ≡ n = omega arith in
       subst (λ x. option_or (first x t) (cond (t x) (Some x) None) ≡ Some m) s (rw (e, h) refl))
 ]
-
--- one more that does not pass
-pub first_past : (m : ℕ) (t : ℕ → Bool) → first m t ≡ None → t m ≡ false → first (suc m) t ≡ None
-first_past m t e h = rw (e, h) refl

@@ -1,17 +1,13 @@
 -- The steps that are taken_within do not hang on the fuel, where there is enough. Assumes nothing.
-use Rattle.std.proofs.Common.{◌≡◌, ℕ, zero, suc, ◌+◌, ◌<◌, true, List, length, Some, None, Option, refl, sym, ap₂, ◌∙◌, subst, arith}
-use Rattle.expressions.specs.Numbering.{stands_on, well_formed}
+use Rattle.std.proofs.Common.{◌≡◌, ℕ, zero, suc, ◌+◌, ◌<◌, true, List, length, Some, None, Option, refl, sym, ap₂, ◌∙◌, arith}
+use Rattle.expressions.specs.Numbering.{well_formed}
 use Rattle.expressions.specs.declared.part.Part.{Part}
-use Rattle.expressions.proofs.Numbered.{stands}
+use Rattle.expressions.proofs.Numbered.{part_stands}
 use Rattle.languages.specs.declared.step.Step.{Step}
 use Rattle.traces.specs.declared.choice.Choice.{Choice}
 use Rattle.traces.specs.declared.choice.Choice.TheVariants.{Stay, Along, Inside, Through}
-use Rattle.traces.specs.Choosing.{part_at, cells, choose, joined, follow, taken_within, chosen, ByChoice}
+use Rattle.traces.specs.Choosing.{part_at, cell_of, choose, joined, follow, taken_within, chosen, ByChoice}
 use Rattle.traces.proofs.Leads.{Leads, leads}
-
--- a part of an expression stands on parts before it
-pub part_stands : (parts : List Part) (q : ℕ) → well_formed 0 parts ≡ true → q < length parts → stands_on q (part_at parts q) ≡ true
-part_stands parts q f h = subst (λ k. stands_on k (part_at parts q) ≡ true) (omega arith) (stands 0 q parts f h)
 
 module _ (parts : List Part) (d : ℕ → ℕ → ℕ → ℕ) (n : ℕ) (formed : well_formed 0 parts ≡ true) where
   same_by_choice : (go to : ℕ → ℕ → ℕ → Option (List Step)) (q u v : ℕ) → q < length parts → ((p x y : ℕ) → p < length parts → p + d p x y < q + d q u v → go p x y ≡ to p x y) → (c : Option Choice) → Leads d n q u v (d q u v) c → follow go u v c ≡ follow to u v c
@@ -42,4 +38,4 @@ module _ (parts : List Part) (d : ℕ → ℕ → ℕ → ℕ) (n : ℕ) (formed
 
 pub by_choice : (parts : List Part) (table : List ℕ) (n : ℕ) → well_formed 0 parts ≡ true → ByChoice parts table n
 unfolding chosen
-by_choice parts table n formed q u v low = one_more parts (cells table n) n formed (chosen parts table n) (λ p x y. refl) q u v low
+by_choice parts table n formed q u v low = one_more parts (cell_of table n) n formed (chosen parts table n) (λ p x y. refl) q u v low

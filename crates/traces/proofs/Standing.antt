@@ -1,17 +1,17 @@
 -- What a choice tells of the steps at a place, and what stands after each. Assumes nothing.
-use Rattle.std.proofs.Common.{◌≡◌, ℕ, ◌+◌, ◌≤◌, List, [], ◌∷◌, ◌++◌, length, take, set, Some, None, Option, sym, ap, ap₂, ◌∙◌, add-one, append-nil, append_assoc, length-append, arith}
+use Rattle.std.proofs.Common.{◌≡◌, ℕ, ◌+◌, ◌≤◌, List, [], ◌∷◌, length, take, set, Some, None, Option, sym, add-one, append-nil, arith}
 use Rattle.std.proofs.Math.Seq.{take-suc-set}
 use Rattle.languages.specs.declared.step.Step.{Step}
 use Rattle.traces.specs.declared.blocks.Blocks.{Blocks}
 use Rattle.traces.specs.declared.choice.Choice.{Choice}
 use Rattle.traces.specs.declared.choice.Choice.TheVariants.{Stay, Along, Inside, Through}
-use Rattle.traces.specs.Choosing.{part_at, choose, joined, follow}
-use Rattle.traces.specs.Places.{PlaceIn, cells_in, chosen_at, Tells, Stands}
+use Rattle.traces.specs.Choosing.{part_at, choose, follow}
+use Rattle.traces.specs.Places.{PlaceIn, cells_in, chosen_at, Chooses, Stands}
 use Rattle.traces.proofs.Fuel.{led, by_choice}
 use Rattle.traces.proofs.Leads.{Leads}
 
 module _ (b : Blocks) (q u v : ℕ) (place : PlaceIn b q u v) where
-  told_by : (x : Option Choice) → Leads (cells_in b) b.n q u v (cells_in b q u v) x → chosen_at b q u v ≡ follow (chosen_at b) u v x → Tells b q u v x
+  told_by : (x : Option Choice) → Leads (cells_in b) b.n q u v (cells_in b q u v) x → chosen_at b q u v ≡ follow (chosen_at b) u v x → Chooses b q u v x
   told_by None l is = is
   told_by (Some Stay) l is = (is, l)
   told_by (Some (Along step)) l is = (is, l)
@@ -30,7 +30,7 @@ module _ (b : Blocks) (q u v : ℕ) (place : PlaceIn b q u v) where
     same = is;
   }
 
-  pub tells : Tells b q u v (choose (cells_in b) b.n (part_at b.parts.now q) q u v (cells_in b q u v))
+  pub tells : Chooses b q u v (choose (cells_in b) b.n (part_at b.parts.now q) q u v (cells_in b q u v))
   tells = told_by _ (led b.parts.now (cells_in b) b.n b.formed q u v place.part) (by_choice b.parts.now b.table.now b.n b.formed q u v place.part)
 
 pub stands_none : (found : Option (List Step)) (k at : ℕ) (steps : List Step) → found ≡ Some [] → k ≡ 0 → Stands found k at at steps steps
@@ -38,12 +38,3 @@ stands_none found k at steps is e = record { chosen = []; are = is; count = sym 
 
 pub stands_one : (found : Option (List Step)) (k at : ℕ) (step : Step) (steps : List Step) → found ≡ Some (step ∷ []) → k ≡ 1 → at + k ≤ length steps → Stands found k at (at + 1) steps (set steps at step)
 stands_one found k at step steps is e room = record { chosen = step ∷ []; are = is; count = sym e; behind = omega arith; written = rw add-one (take-suc-set steps at step (omega arith)) }
-
-pub stands_joined : (found more : Option (List Step)) (k l at mid end : ℕ) (steps steps₁ steps₂ : List Step) → Stands found k at mid steps steps₁ → Stands more l mid end steps₁ steps₂ → Stands (joined found more) (k + l) at end steps steps₂
-stands_joined found more k l at mid end steps steps₁ steps₂ s t = record {
-  chosen = s.chosen ++ t.chosen;
-  are = ap₂ joined s.are t.are;
-  count = length-append s.chosen t.chosen ∙ omega (arith, s.count, t.count);
-  behind = omega (arith, s.behind, t.behind);
-  written = t.written ∙ ap (λ x. x ++ t.chosen) s.written ∙ simp append_assoc;
-}

@@ -10,9 +10,10 @@ use Rattle.traces.specs.declared.choice.Choice.{Choice}
 use Rattle.traces.specs.declared.choice.Choice.TheVariants.{Stay, Along, Inside, Through}
 
 -- the cell of u and v in the block of part q
-abbrev pub cells : List ℕ → ℕ → ℕ → ℕ → ℕ → ℕ
-cells table n q u v = cell table (block_at n q) n u v
+abbrev pub cell_of : List ℕ → ℕ → ℕ → ℕ → ℕ → ℕ
+cell_of table n q u v = cell table (block_at n q) n u v
 
+-- the part of a number (`Epsilon` past the end)
 abbrev pub part_at : List Part → ℕ → Part
 part_at parts q = slice_index_or parts q Epsilon
 
@@ -50,7 +51,7 @@ along a v k = cond (k == 1) (Some (Along (record { letter = a; entry = v }))) No
 abbrev pub pieces : (ℕ → ℕ → ℕ → ℕ) → ℕ → ℕ → ℕ → ℕ → ℕ → Option Choice
 pieces d n q u v k = option_or (inside d (q - 1) u v k) (through d n 1 (q - 1) q u v k)
 
--- what is chosen at part q, which is of the form given, from u to v, for k steps; nothing where the table is altered
+-- what is chosen at part q, which is of the form given, from u to v, for k steps; nothing where the cells lead to no steps
 abbrev pub choose : (ℕ → ℕ → ℕ → ℕ) → ℕ → Part → ℕ → ℕ → ℕ → ℕ → Option Choice
 choose d n Epsilon q u v k = stay u v k
 choose d n (Letter a) q u v k = along a v k
@@ -75,18 +76,18 @@ follow go u v (Some (Along step)) = Some (step ∷ [])
 follow go u v (Some (Inside q)) = go q u v
 follow go u v (Some (Through left m right)) = joined (go left u m) (go right m v)
 
--- the steps that are taken at part q from u to v, with so much fuel; each choice leads to where the number of the part and the cell add up to less
+-- the steps that are taken at part q from u to v, with so much fuel: a number from which each choice takes one, so that the definition ends. A choice leads to where the number of the part and the cell add up to less
 abbrev pub taken_within : List Part → (ℕ → ℕ → ℕ → ℕ) → ℕ → ℕ → ℕ → ℕ → ℕ → Option (List Step)
 taken_within parts d n zero q u v = None
 taken_within parts d n (suc fuel) q u v = follow (taken_within parts d n fuel) u v (choose d n (part_at parts q) q u v (d q u v))
 
--- the steps that are taken at part q from u to v, or none where the table is altered: the fuel suffices
+-- the steps that are taken at part q from u to v, or none where the cells lead to no steps: the fuel suffices
 unfoldable pub chosen : List Part → List ℕ → ℕ → ℕ → ℕ → ℕ → Option (List Step)
-chosen parts table n q u v = taken_within parts (cells table n) n (q + cells table n q u v + 1) q u v
+chosen parts table n q u v = taken_within parts (cell_of table n) n (q + cell_of table n q u v + 1) q u v
 
 -- the count of the whole expression, which is the last part, and the steps that are taken for it
 abbrev pub whole_count : List Part → List ℕ → ℕ → ℕ → ℕ → ℕ
-whole_count parts table n u v = cells table n (length parts - 1) u v
+whole_count parts table n u v = cell_of table n (length parts - 1) u v
 
 abbrev pub whole_steps : List Part → List ℕ → ℕ → ℕ → ℕ → Option (List Step)
 whole_steps parts table n u v = chosen parts table n (length parts - 1) u v
@@ -94,7 +95,7 @@ whole_steps parts table n u v = chosen parts table n (length parts - 1) u v
 -- the fuel does not matter: the steps at a part and a pair are those that the choice there leads to
 abbrev pub ByChoice : List Part → List ℕ → ℕ → Type 0
 ByChoice parts table n =
-    (q u v : ℕ) → q < length parts → chosen parts table n q u v ≡ follow (chosen parts table n) u v (choose (cells table n) n (part_at parts q) q u v (cells table n q u v))
+    (q u v : ℕ) → q < length parts → chosen parts table n q u v ≡ follow (chosen parts table n) u v (choose (cell_of table n) n (part_at parts q) q u v (cell_of table n q u v))
 
 -- steps that are chosen, so many, stand at the front, and what lies behind them is as it was
 pub record Taken (found : Option (List Step)) (k : ℕ) (steps steps' : List Step) : Type 0 where

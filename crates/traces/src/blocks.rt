@@ -1,10 +1,13 @@
 // The blocks of an expression's parts, and what is chosen there.
 ghost use Rattle.std.specs.Prelude.{◌≡◌, ℕ, ◌≤◌, true, length};
+ghost use Rattle.expressions.specs.Grammar.{most_parts};
 ghost use Rattle.expressions.specs.Numbering.{well_formed};
+ghost use Rattle.tables.specs.Limits.{most_entries};
 ghost use Rattle.tables.specs.Tables.{block_at};
 
 use crate::choice::Choice;
-use expressions::part::Part;
+use expressions::part::{Part, Parts};
+use tables::cell::MOST_ENTRIES;
 
 // The parts of an expression, and a table that has the cells of each, among n entries. The table may be altered: its cells may hold anything.
 #[derive(Clone, Copy)]
@@ -12,20 +15,38 @@ pub(crate) struct Blocks<'a> {
     pub(crate) parts: &'a [Part],
     pub(crate) table: &'a [u32],
     pub(crate) n: usize,
-    ghost short: { length parts.now ≤ 32 },
-    ghost few: { n ≤ 128 },
+    ghost some: { 1 ≤ length parts.now },
+    ghost short: { length parts.now ≤ most_parts },
+    ghost few: { n ≤ most_entries },
     ghost formed: { well_formed 0 parts.now ≡ true },
     ghost room: { block_at n (length parts.now) ≤ length table.now },
+}
+
+impl<'a> Blocks<'a> {
+    ghost use Rattle.expressions.specs.Storing.{parts_of};
+    ghost use Rattle.traces.specs.Places.{LaidOver};
+
+    // Nothing where the table is cut: the entries are too many, or a cell is missing.
+    pub(crate) fn over(parts: &'a Parts, table: &'a [u32], n: usize) -> Option<Self>
+        ensures { LaidOver (parts_of parts.now) table.now n result }
+    {
+        let parts = parts.as_slice();
+        // With no more than the most entries, the product is small.
+        if n > MOST_ENTRIES || table.len() < parts.len() * (n * n) {
+            return None;
+        }
+        Some(Blocks { parts, table, n })
+    }
 }
 
 // A pair is told by u, where the steps begin, and v, where they end; k is how many steps are to be taken.
 impl Blocks<'_> {
     ghost use Rattle.std.specs.Prelude.{◌-◌, ◌<◌};
     ghost use Rattle.traces.specs.Choosing.{part_at, through, inside, pieces, choose};
-    ghost use Rattle.traces.specs.Places.{PlaceIn, cells_in, Tells};
+    ghost use Rattle.traces.specs.Places.{PlaceIn, cells_in, Chooses};
 
     // How many steps part q counts.
-    fn cell(&self, q: usize, u: usize, v: usize) -> u32
+    pub(crate) fn cell(&self, q: usize, u: usize, v: usize) -> u32
         requires { PlaceIn self.now q u v }
         ensures { result ≡ cells_in self.now q u v }
     {
@@ -48,8 +69,7 @@ impl Blocks<'_> {
     {
         for middle in 0..self.n {
             let before = self.cell(left, u, middle);
-            let behind = self.cell(right, middle, v);
-            if least <= before && before <= k && k - before == behind {
+            if least <= before && before <= k && k - before == self.cell(right, middle, v) {
                 return Some(Choice::Through {
                     left,
                     middle,
@@ -80,7 +100,7 @@ impl Blocks<'_> {
         }
     }
 
-    // What is chosen at part q; nothing where the table is altered.
+    // What is chosen at part q; nothing where the cells lead to no steps.
     fn choose(&self, q: usize, u: usize, v: usize, k: u32) -> Option<Choice>
         requires { PlaceIn self.now q u v }
         ensures { result ≡ choose (cells_in self.now) self.now.n (part_at self.now.parts.now q) q u v k }
@@ -105,7 +125,7 @@ impl Blocks<'_> {
     // What is chosen at part q for as many steps as it counts.
     pub(crate) fn choice(&self, q: usize, u: usize, v: usize) -> Option<Choice>
         requires { PlaceIn self.now q u v }
-        ensures { Tells self.now q u v result }
+        ensures { Chooses self.now q u v result }
     {
         self.choose(q, u, v, self.cell(q, u, v))
     }

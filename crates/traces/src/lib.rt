@@ -1,4 +1,4 @@
-// Traces: how the steps of a path are taken from a filled table.
+// Traces: how the steps of a path are taken from a table.
 #![tactic(auto)]
 
 mod blocks;

@@ -1,21 +1,28 @@
 // The steps of a path, taken from a table.
 ghost use Rattle.std.specs.Prelude.{◌≡◌, ℕ, ◌+◌, ◌<◌, ◌≤◌, length, None, MatchOption};
 ghost use Rattle.expressions.specs.Storing.{parts_of};
-ghost use Rattle.languages.specs.Cells.{long};
-ghost use Rattle.tables.specs.Tables.{block_at};
-ghost use Rattle.traces.specs.Choosing.{whole_count, whole_steps, Taken, ByChoice};
+ghost use Rattle.traces.specs.Choosing.{ByChoice};
 ghost use Rattle.traces.specs.Places.{PlaceIn, cells_in, chosen_at, Stands};
+ghost use Rattle.traces.specs.Tracing.{steps_row, path_rows, TakenBy, TracesSteps};
 
 use crate::blocks::Blocks;
 use crate::choice::Choice;
 use expressions::part::Parts;
 use languages::step::Step;
+use refusals::Refusal;
+use tables::cell::{LONG, MOST_STEPS};
 
-// A path that is told has fewer than 1,000 steps.
-const MOST_STEPS: usize = 999;
+// Most paths that are told have no more than so many steps.
+const FEW_STEPS: usize = 15;
+
+// What stands in a buffer before its steps do.
+const NO_STEP: Step = Step {
+    letter: 0,
+    entry: 0,
+};
 
 impl Blocks<'_> {
-    // Writes the steps that are chosen at part q from an offset on, and tells where they end; nothing is told where the table is altered.
+    // Writes the steps that are chosen at part q from an offset on, and tells where they end; nothing is told where the cells lead to no steps.
     fn put_steps(
         &self,
         q: usize,
@@ -45,9 +52,53 @@ impl Blocks<'_> {
             }
         }
     }
+
+    // Writes the steps that are chosen at part q to the front, by way of another buffer, since the cells may lead to no steps, and then nothing is written.
+    fn tell(
+        &self,
+        q: usize,
+        u: usize,
+        v: usize,
+        found: &mut [Step],
+        steps: &mut [Step],
+    ) -> Result<usize, Refusal>
+        requires place { PlaceIn self.now q u v }
+        requires found { cells_in self.now q u v ≤ length found.old }
+        requires room { cells_in self.now q u v ≤ length steps.old }
+        ensures { TakenBy (steps_row (chosen_at self.now q u v)) (cells_in self.now q u v) (chosen_at self.now q u v) steps.old steps.new result }
+    {
+        let count = self
+            .put_steps(q, u, v, found, 0)
+            .ok_or(Refusal::TableAltered)?;
+        steps[..count].copy_from_slice(&found[..count]);
+        Ok(count)
+    }
+
+    // Goes by the cell of part q: tells the steps where it counts some and there is room for so many.
+    fn tell_by_cell(
+        &self,
+        q: usize,
+        u: usize,
+        v: usize,
+        steps: &mut [Step],
+    ) -> Result<usize, Refusal>
+        requires { PlaceIn self.now q u v }
+        ensures { TakenBy (path_rows (cells_in self.now q u v) (length steps.old) (chosen_at self.now q u v)) (cells_in self.now q u v) (chosen_at self.now q u v) steps.old steps.new result }
+    {
+        match self.cell(q, u, v) {
+            count if count > LONG => Err(Refusal::NoPath),
+            LONG => Err(Refusal::OnlyLongPaths),
+            count if steps.len() < count as usize => Err(Refusal::StepsTooShort),
+            // A short buffer is sooner made.
+            count if count as usize <= FEW_STEPS => {
+                self.tell(q, u, v, &mut [NO_STEP; FEW_STEPS], steps)
+            }
+            _ => self.tell(q, u, v, &mut [NO_STEP; MOST_STEPS], steps),
+        }
+    }
 }
 
-// Writes the steps that are chosen for the whole expression from u to v at the front of the buffer, and tells how many; nothing where the table is altered.
+// Writes the steps that are chosen for the whole expression from u to v at the front of the buffer, and tells how many; or is refused, and writes nothing.
 pub fn trace(
     parts: &Parts,
     table: &[u32],
@@ -55,28 +106,13 @@ pub fn trace(
     u: usize,
     v: usize,
     steps: &mut [Step],
-) -> Option<usize>
-    requires few { n ≤ 128 }
-    requires from { u < n }
-    requires to { v < n }
-    requires table { block_at n (length (parts_of parts.now)) ≤ length table.now }
-    requires short { whole_count (parts_of parts.now) table.now n u v < long }
-    requires room { whole_count (parts_of parts.now) table.now n u v ≤ length steps.old }
-    ensures taken { MatchOption result ((whole_steps (parts_of parts.now) table.now n u v ≡ None) × (steps.new ≡ steps.old)) (λ k. (k ≡ whole_count (parts_of parts.now) table.now n u v) × Taken (whole_steps (parts_of parts.now) table.now n u v) k steps.old steps.new) }
+) -> Result<usize, Refusal>
+    ensures taken { TracesSteps (parts_of parts.now) table.now n u v steps.old steps.new result }
     ensures by_choice { ByChoice (parts_of parts.now) table.now n }
 {
-    let blocks = Blocks {
-        parts: parts.as_slice(),
-        table,
-        n,
-    };
-    let last = blocks.parts.len() - 1;
-    // The steps may turn out not to be told, and then nothing is written.
-    let mut found = [Step {
-        letter: 0,
-        entry: 0,
-    }; MOST_STEPS];
-    let count = blocks.put_steps(last, u, v, &mut found, 0)?;
-    steps[..count].copy_from_slice(&found[..count]);
-    Some(count)
+    if u >= n || v >= n {
+        return Err(Refusal::NoSuchEntry);
+    }
+    let blocks = Blocks::over(parts, table, n).ok_or(Refusal::TableCut)?;
+    blocks.tell_by_cell(blocks.parts.len() - 1, u, v, steps)
 }

@@ -2,7 +2,8 @@ use Rattle.std.proofs.Common.{subst, arith}
 use Rattle.std.proofs.lemmas.Result.{err_from_is_err_and}
 use Rattle.expressions.specs.Wordings.{Refused}
 use Rattle.asking.specs.Asking.{too_long, by_wording}
-use Rattle.asking.proofs.Asked.{asked_all, wording_refused}
+use Rattle.queries.proofs.Meaning.{parse_told}
+use Rattle.asking.proofs.Asked.{asked_all}
 use Rattle.asking.proofs.ask.ask.Goals as goal
 
 pub returns-then-input-gt-MOST_INPUT : goal.returns-then-input-gt-MOST_INPUT
@@ -11,7 +12,7 @@ returns-then-input-gt-MOST_INPUT c = too_long c.if-input-gt-MOST_INPUT.true
 pub returns-in_err-parse : goal.returns-in_err-parse
 returns-in_err-parse c =
     let p = err_from_is_err_and c.from_residual.result c.from_residual.ensures.1 in
-    rw (p.1, p.2) (by_wording (omega arith) (subst (λ t. Refused t c.in_err-parse.field-0.0) c.wording.ensures (wording_refused _ _ _ _ c.in_err-parse.ensures)))
+    rw (p.1, p.2) (by_wording (omega arith) (subst (λ t. Refused t c.in_err-parse.field-0.0) c.wording.ensures (parse_told _ _ _ _ c.in_err-parse.ensures).0))
 
 pub returns : goal.returns
 returns c = asked_all _ _ _ _ _ _ _ _ _ c.requires c.wording.ensures c.book_file.ensures.is (omega arith) c.in_ok-parse.ensures c.work.ensures

@@ -9,8 +9,8 @@ use Rattle.expressions.proofs.parse.parse.Goals as goal
 both : (t : List ℕ) (r : Result Parts Refusal) → Parsed t r → record { parsed : Parsed t r; decided : Decided t r }
 both t r h = record { parsed = h; decided = decided_by t r h }
 
-pub returns-then-text-gt-MOST_BYTES : goal.returns-then-text-gt-MOST_BYTES
-returns-then-text-gt-MOST_BYTES c = both _ _ (too_long c.if-text-gt-MOST_BYTES.true)
+pub returns-then-text-gt-MOST_WORDING : goal.returns-then-text-gt-MOST_WORDING
+returns-then-text-gt-MOST_WORDING c = both _ _ (too_long c.if-text-gt-MOST_WORDING.true)
 
 pub returns-in_err-read : goal.returns-in_err-read
 returns-in_err-read c =

@@ -1,6 +1,6 @@
 use Rattle.std.proofs.Common.{◌≡◌, ℕ, ◌+◌, ◌<◌, ◌≤◌, true, List, length, get_or, refl, sym, ◌∙◌, rules}
 use Rattle.std.proofs.lemmas.List.{get_or_default}
-use Rattle.std.proofs.lemmas.List.Recursion.{and_at}
+use Rattle.std.proofs.lemmas.List.Sums.{AllPass-from_list_all}
 use Rattle.graphs.specs.declared.link.Link.{Link}
 use Rattle.graphs.specs.Links.{sound, all_sound}
 use Rattle.files.specs.Encoding.{link_kind, framed, link_bytes}
@@ -22,7 +22,7 @@ slice_bounds-put_link-end c =
     search rules
 
 small : (n : ℕ) (ls : List Link) (i : ℕ) → i < length ls → all_sound n ls ≡ true → n ≤ 128 → ((get_or ls i none).from < 256) × ((get_or ls i none).to < 256)
-small n ls i h fine few = ends_small n (get_or ls i none) (and_at (all_sound n) (sound n) refl (λ _ _. refl) ls i none h fine) few
+small n ls i h fine few = ends_small n (get_or ls i none) (AllPass-from_list_all (sound n) ls fine i none h) few
 
 pub put_link-requires-clause-from : goal.put_link-requires-clause-from
 put_link-requires-clause-from c = (small c.args.entries c.args.links.now c.loop-link.link-index c.loop-link-test.true c.requires.sound c.requires.few).0

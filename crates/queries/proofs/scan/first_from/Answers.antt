@@ -3,7 +3,7 @@ use Rattle.queries.proofs.Firsts.{first_none, first_some}
 use Rattle.queries.proofs.scan.first_from.Goals as goal
 
 pub returns-in_err-at : goal.returns-in_err-at
-returns-in_err-at c = rw c.from_residual.ensures (first_none _ _ _ _ _ c.requires.square c.requires.column c.requires.within refl (sym c.first_near.ensures ∙ c.in_err-at.was))
+returns-in_err-at c = rw c.from_residual.ensures (first_none _ _ _ _ _ c.requires.square c.requires.column c.requires.within refl (sym c.first_reached.ensures ∙ c.in_err-at.was))
 
 pub returns : goal.returns
-returns c = first_some _ _ _ _ _ c.requires.square c.requires.column c.requires.within refl _ (sym c.first_near.ensures ∙ c.in_ok-at.was)
+returns c = first_some _ _ _ _ _ c.requires.square c.requires.column c.requires.within refl _ (sym c.first_reached.ensures ∙ c.in_ok-at.was)

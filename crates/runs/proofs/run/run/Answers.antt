@@ -1,7 +1,8 @@
 use Rattle.std.proofs.Common.{◌≡◌, ◌<◌, ◌≤◌, length, get_or, ap, ◌∙◌, get_or-set_same, arith, rules}
 use Rattle.std.proofs.lemmas.List.{places, get_or-take, take_rest}
 use Rattle.runs.specs.Requests.{steps_in}
-use Rattle.runs.proofs.Going.{going_new, going_on, going_ran, put_last}
+use Rattle.runs.proofs.Going.{going_new, going_on, going_ran}
+use Rattle.tables.proofs.Rows.{put_last}
 use Rattle.runs.proofs.run.run.Goals as goal
 
 pub loop-i-init : goal.loop-i-init

@@ -1,6 +1,6 @@
 use Rattle.std.proofs.Common.{arith}
 use Rattle.std.proofs.lemmas.Bool.Decides.{nat_tests}
-use Rattle.traces.proofs.Fuel.{part_stands}
+use Rattle.expressions.proofs.Numbered.{part_stands}
 use Rattle.traces.proofs.blocks.Blocks.choose.Goals as goal
 
 pub inside-first-requires : goal.inside-first-requires

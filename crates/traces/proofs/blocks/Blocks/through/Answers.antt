@@ -9,5 +9,5 @@ pub returns-then-k-before : goal.returns-then-k-before
 returns-then-k-before c =
     let d = cells_in c.args.self.now in
     let m = c.loop-middle.middle in
-    let is = middle_told d c.args.least c.args.left c.args.right c.args.u c.args.v c.args.k m c.cell-before.result c.cell-behind.result (sym c.cell-before.ensures) (sym c.cell-behind.ensures) c.if-least-before.true (omega arith) in
+    let is = middle_told d c.args.least c.args.left c.args.right c.args.u c.args.v c.args.k m c.cell-before.result c.cell.result (sym c.cell-before.ensures) (sym c.cell.ensures) c.if-least-before.true (omega arith) in
     sym (ap (over c.args.left c.args.right) (first_found m c.args.self.now.n (is_middle d c.args.least c.args.left c.args.right c.args.u c.args.v c.args.k) c.loop-middle-test.true c.loop-middle.invariant is))

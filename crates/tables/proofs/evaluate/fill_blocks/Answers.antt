@@ -2,7 +2,7 @@ use Rattle.std.proofs.Common.{◌*◌, length, ap, arith, rules}
 use Rattle.std.proofs.lemmas.List.{places}
 use Rattle.tables.proofs.Rows.{row_end}
 use Rattle.tables.proofs.Filling.{front_shown, filled_more}
-use Rattle.tables.proofs.evaluate.evaluate.Goals as goal
+use Rattle.tables.proofs.evaluate.fill_blocks.Goals as goal
 
 pub fill-requires-clause-shown : goal.fill-requires-clause-shown
 fill-requires-clause-shown g c =
