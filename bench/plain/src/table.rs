@@ -1,6 +1,6 @@
 // The table of a query: a block of n * n cells for each part, filled from the blocks before it.
 
-use crate::book::Book;
+use crate::book::{Book, Value};
 use crate::parse::Part;
 
 // Stands for every count of steps from 1,000 on.
@@ -79,7 +79,7 @@ fn keep_where(block: &mut [u32], before: &[u32], n: usize, passes: impl Fn(usize
     }
 }
 
-fn fill(book: &Book, part: Part, block: &mut [u32], done: &[u32], n: usize) {
+fn fill<V: Value>(book: &Book<V>, part: Part, block: &mut [u32], done: &[u32], n: usize) {
     let size = n * n;
     let before = &done[done.len().saturating_sub(size)..];
     match part {
@@ -115,7 +115,7 @@ fn fill(book: &Book, part: Part, block: &mut [u32], done: &[u32], n: usize) {
 }
 
 // Fills the block of every part.
-pub fn evaluate(book: &Book, parts: &[Part], table: &mut [u32], n: usize) {
+pub fn evaluate<V: Value>(book: &Book<V>, parts: &[Part], table: &mut [u32], n: usize) {
     let size = n * n;
     for (q, part) in parts.iter().enumerate() {
         let (done, rest) = table.split_at_mut(q * size);
