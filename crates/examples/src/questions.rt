@@ -93,21 +93,13 @@ fn first_questions(rt: HostRuntime) -> Result<(), Fail> {
     Ok(())
 }
 
-// The days on which a whole number of weeks later is the same day of the month.
-fn week_pairs(query: &mut Query, year: u16, table: &mut [u32]) -> Result<usize, Refusal> {
-    let sheet = Sheet::new(year, 2, 2)?;
-    query.parse(b"(w+)=")?;
-    query.evaluate(&sheet, table)?;
-    query.tally(table)
-}
-
+// The pairs of days in February and March 2023 that are the same day of the month, some weeks apart.
 #[test]
 fn weeks(rt: HostRuntime) -> Result<(), Fail> {
     let mut table = vec![in rt.alloc(); 7u32; 10800]?;
     let mut query = Query::new();
-    assert_eq!(rt; week_pairs(&mut query, 2024, &mut table), Ok(0));
-    assert_eq!(rt; week_pairs(&mut query, 2023, &mut table), Ok(28));
-    assert_eq!(rt; query.lookup(&table, 0, 28), Ok(Found::Steps(4)));
+    query.parse(b"(w+)=")?;
+    query.evaluate(&Sheet::new(2023, 2, 2)?, &mut table)?;
     assert_eq!(rt; query.next(&table, None), Ok(Some((0, 28))));
     assert_eq!(rt; query.next(&table, Some((0, 28))), Ok(Some((1, 29))));
     assert_eq!(rt; query.next(&table, Some((27, 55))), Ok(None));
@@ -143,8 +135,6 @@ fn long_way_round(rt: HostRuntime) -> Result<(), Fail> {
     let mut query = Query::new();
     query.parse(b"(aaaaaaaa)+")?;
     query.evaluate(&book, &mut table)?;
-    assert_eq!(rt; query.lookup(&table, 0, 117), Ok(Found::Steps(992)));
-    assert_eq!(rt; query.lookup(&table, 0, 0), Ok(Found::Long));
     assert_eq!(rt; query.tally(&table), Ok(15625));
     let mut steps = [Step {
         letter: b'x',
