@@ -1,3 +1,10 @@
+pub mod Kinded
+pub mod OneInput
+pub mod OnePath
+pub mod OneListing
+pub mod OneDue
+pub mod Paths
+pub mod Sizes
 pub mod Listing
 pub mod Booked
 pub mod Asked

@@ -10,14 +10,16 @@ use Rattle.languages.specs.Cells.{Lengths, long}
 use Rattle.languages.specs.Languages.{Joined}
 use Rattle.languages.specs.declared.step.Step.{Step}
 use Rattle.listing.specs.Lines.{first_line}
-use Rattle.queries.proofs.Listing.{reached_in_row, reached_pairs, reached_counted, joined_within, pairs_listed}
+use Rattle.languages.proofs.Walks.{joined_within}
+use Rattle.queries.proofs.Listing.{reached_in_row, reached_pairs, reached_counted, pairs_listed}
 use Rattle.queries.proofs.Meaning.{cell_told}
 use Rattle.queries.specs.Calls.{found_in}
 use Rattle.queries.specs.Meanings.{IsJoined, Told}
 use Rattle.queries.specs.declared.found.Found.{Found}
 use Rattle.queries.specs.declared.found.Found.TheVariants.{Steps, Long, Absent}
 use Rattle.asking.specs.Listings.{LineBy, Lines}
-use Rattle.asking.specs.Tells.{pair_text, row_text, pairs_text, listing_text}
+use Rattle.asking.specs.Chosen.{pair_text}
+use Rattle.asking.specs.Tells.{row_text, pairs_text, listing_text}
 
 -- cells, and paths for the pairs that they tell of
 module _ (d : ℕ → ℕ → ℕ) (w : ℕ → ℕ → List Step) where

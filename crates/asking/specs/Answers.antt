@@ -1,5 +1,5 @@
 -- What the program prints of its input. Assumes nothing.
-use Rattle.std.specs.Prelude.{◌≡◌, ℕ, ◌<◌, ◌≤◌, List, length, take, Ok, Err, Result}
+use Rattle.std.specs.Prelude.{◌≡◌, ℕ, ◌≤◌, List, length, take, Ok, Err, Result}
 use Rattle.languages.specs.declared.step.Step.{Step}
 use Rattle.expressions.specs.declared.part.Parts.{Parts}
 use Rattle.queries.specs.Calls.{Evaluates, Traces}
@@ -8,11 +8,11 @@ use Rattle.queries.specs.declared.condition.Condition.TheVariants.{Parsed}
 use Rattle.expressions.specs.Exprs.{Expr}
 use Rattle.expressions.specs.Wordings.{Worded, Accepted}
 use Rattle.graphs.specs.Graphs.{Graph}
-use Rattle.listing.specs.Lines.{refusal_line, Laid}
+use Rattle.listing.specs.Lines.{refusal_line, Lined}
 use Rattle.refusals.specs.declared.Refusal.{Refusal}
-use Rattle.refusals.specs.declared.Refusal.TheVariants.{TextTooShort}
 use Rattle.asking.specs.declared.answer.Answer.{Answer}
-use Rattle.asking.specs.Asking.{cells_for, BookIn, RefusedBy}
+use Rattle.tables.specs.Layout.{cells_for}
+use Rattle.asking.specs.Asking.{BookIn, RefusedBy}
 use Rattle.asking.specs.Input.{most_input, most_text, program_cells, wording, book_file}
 use Rattle.asking.specs.Listings.{Lines}
 
@@ -33,7 +33,7 @@ pub record Listed (input lines : List ℕ) : Type 0 where
   pub worded : Worded (wording input) expr
   pub graph : Graph
   pub book : BookIn (book_file input) graph
-  pub room : cells_for expr graph ≤ program_cells
+  pub room : cells_for expr graph.entries ≤ program_cells
   pub path : ℕ → ℕ → List Step
   pub listed : Lines graph expr path lines
   pub traced : TracedBy (wording input) graph path
@@ -43,12 +43,21 @@ abbrev pub text_length : Answer → ℕ
 text_length (Answer.Listed n) = n
 text_length (Answer.Refused n) = n
 
--- the text of an answer lies at the front of the buffer, and what lies behind is as it was: the lines, or the line of the refusal
-abbrev pub AnsweredIn : List ℕ → List ℕ → List ℕ → Answer → Type 0
-AnsweredIn input text text' (Answer.Listed n) = (lines : List ℕ) × Listed input lines × Laid lines text text' n
-AnsweredIn input text text' (Answer.Refused n) = (x : Refusal) × RefusedBy input x × Laid (refusal_line x) text text' n
+-- the text that is due for an input, with the answer that tells what it is and how long: the lines, or the line of the refusal
+abbrev pub Due : List ℕ → List ℕ → Answer → Type 0
+Due input text (Answer.Listed n) = Listed input text × (n ≡ length text)
+Due input text (Answer.Refused n) = (x : Refusal) × RefusedBy input x × (text ≡ refusal_line x) × (n ≡ length text)
 
--- the program's answer, by the buffer as it was and as it is: one that has no room for every answer is refused, and stays as it was; in any other the input is answered
-abbrev pub Answered : List ℕ → List ℕ → List ℕ → Result Answer Refusal → Type 0
-Answered input text text' (Ok answer) = (most_text ≤ length text) × AnsweredIn input text text' answer
-Answered input text text' (Err x) = (x ≡ TextTooShort) × (length text < most_text) × (text' ≡ text)
+-- a due text is held to the row of a line: one that is no longer than the buffer lies at the front, and what lies behind is as it was; a longer one is refused, and the buffer is as it was
+abbrev pub Given : List ℕ → Answer → List ℕ → List ℕ → Result Answer Refusal → Type 0
+Given due answer text text' (Ok given) = (given ≡ answer) × Lined due text text' (Ok (text_length answer))
+Given due answer text text' (Err x) = Lined due text text' (Err x)
+
+-- the program's answer, by the buffer as it was and as it is: one text is due and no other, it is no longer than any answer may be, and it is given
+pub record Answered (input text text' : List ℕ) (r : Result Answer Refusal) : Type 0 where
+  pub due : List ℕ
+  pub answer : Answer
+  pub is : Due input due answer
+  pub only : (other : List ℕ) (answer' : Answer) → Due input other answer' → (other ≡ due) × (answer' ≡ answer)
+  pub within : length due ≤ most_text
+  pub given : Given due answer text text' r

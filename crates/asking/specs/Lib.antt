@@ -1,4 +1,5 @@
 pub mod Input
+pub mod Kinds
 pub mod Listings
 pub mod Asking
 pub mod Answers

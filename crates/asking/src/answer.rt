@@ -5,12 +5,13 @@ ghost use Rattle.asking.specs.Answers.{text_length, Answered};
 use crate::ask::ask;
 use crate::evaluated::Evaluated;
 use crate::list::list;
-use crate::room::{MOST_TEXT, ROOM_CELLS};
+use crate::measure::has_room;
+use crate::room::ROOM_CELLS;
 use listing::lines::refusal_line;
 use queries::Query;
 use refusals::Refusal;
 
-// What the program prints: the lines of an answer, or the line of the refusal. It tells how long the text is, which lies at the front of the caller's buffer.
+/// What the program prints: the lines of an answer, or the line of the refusal. It tells how long the text is, which lies at the front of the caller's buffer.
 #[derive(Debug, Clone, Copy)]
 pub enum Answer {
     Listed(usize),
@@ -18,7 +19,7 @@ pub enum Answer {
 }
 
 impl Answer {
-    // The length of the text, whichever it is.
+    /// The length of the text, whichever it is.
     pub fn length(self) -> usize
         ensures { result ≡ text_length self }
     {
@@ -28,13 +29,10 @@ impl Answer {
     }
 }
 
-// The lines of the answer, or the line of the refusal, at the front of a buffer that has room for any answer. A shorter buffer is refused, which is the only error.
+/// Puts the lines of the answer, or the line of the refusal, at the front of a buffer. One that is too short for them is refused, which is the only error.
 pub fn answer_to(input: &[u8], text: &mut [u8]) -> Result<Answer, Refusal>
     ensures { Answered input.now text.old text.new result }
 {
-    if text.len() < MOST_TEXT {
-        return Err(Refusal::TextTooShort);
-    }
     let mut cells = [0; ROOM_CELLS];
     let mut query = Query::new();
     match ask(&mut query, input, &mut cells) {
@@ -44,8 +42,11 @@ pub fn answer_to(input: &[u8], text: &mut [u8]) -> Result<Answer, Refusal>
                 cells: &cells,
                 entries,
             };
+            if !has_room(text, evaluated) {
+                return Err(Refusal::TextTooShort);
+            }
             Ok(Answer::Listed(list(text, evaluated)))
         }
-        Err(refusal) => Ok(Answer::Refused(refusal_line(refusal, text).unwrap())),
+        Err(refusal) => Ok(Answer::Refused(refusal_line(refusal, text)?)),
     }
 }

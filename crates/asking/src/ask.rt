@@ -1,9 +1,10 @@
 // A question asked of the book in the program's input.
 ghost use Rattle.std.specs.Prelude.{◌≡◌, ℕ, length};
 ghost use Rattle.asking.specs.Input.{program_room, program_cells};
+ghost use Rattle.asking.specs.Kinds.{kept_as};
 ghost use Rattle.asking.specs.Tells.{WorkedAs, Worked, Asked};
 
-use crate::input::{MOST_INPUT, book_file, holds_days, wording};
+use crate::input::{Input, MOST_INPUT, split, value_kind};
 use crate::room::{ROOM_ENTRIES, ROOM_LINKS};
 use files::read::read_book;
 use graphs::book::Book;
@@ -23,7 +24,7 @@ fn work_as<K: Kind>(
     cells: &mut [u32],
 ) -> Result<usize, Refusal>
     requires { length entries.old ≡ ROOM_ENTRIES }
-    ensures { WorkedAs K.Payload.Payload.shape K.Payload.Payload.encoded K.eq program_room file.now query.old cells.old query.new cells.new result }
+    ensures { WorkedAs (kept_as K.Payload.Payload.shape K.Payload.Payload.encoded K.eq) program_room file.now query.old cells.old query.new cells.new result }
 {
     let mut links = [Link::default(); ROOM_LINKS];
     let read = read_book(file, entries, &mut links)?;
@@ -35,14 +36,13 @@ fn work_as<K: Kind>(
     Ok(read.entries)
 }
 
-// The same of a book of days where its head says so, and otherwise of names.
+// The same of a book of the kind of value that its head tells.
 fn work(query: &mut Query, file: &[u8], cells: &mut [u32]) -> Result<usize, Refusal>
     ensures { Worked file.now query.old cells.old query.new cells.new result }
 {
-    if holds_days(file) {
-        work_as(query, file, &mut [Day::default(); ROOM_ENTRIES], cells)
-    } else {
-        work_as(query, file, &mut [Name::default(); ROOM_ENTRIES], cells)
+    match value_kind(file) {
+        Day::NUMBER => work_as(query, file, &mut [Day::default(); ROOM_ENTRIES], cells),
+        _ => work_as(query, file, &mut [Name::default(); ROOM_ENTRIES], cells),
     }
 }
 
@@ -54,6 +54,7 @@ pub(crate) fn ask(query: &mut Query, input: &[u8], cells: &mut [u32]) -> Result<
     if input.len() > MOST_INPUT {
         return Err(Refusal::InputTooLong);
     }
-    query.parse(wording(input))?;
-    work(query, book_file(input), cells)
+    let Input { wording, book_file } = split(input);
+    query.parse(wording)?;
+    work(query, book_file, cells)
 }

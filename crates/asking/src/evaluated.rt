@@ -1,10 +1,11 @@
 // A query that was evaluated, asked about pairs of entries.
 ghost use Rattle.std.specs.Prelude.{◌≡◌, ℕ, ◌<◌, ◌≤◌, length, Some, None};
-ghost use Rattle.asking.specs.Chosen.{Unaltered};
-ghost use Rattle.asking.specs.declared.room.TheConstants.{ROOM_ENTRIES};
+ghost use Rattle.asking.specs.Chosen.{Unaltered, LinesWithin};
+ghost use Rattle.asking.specs.declared.room.TheConstants.{LINE, ROOM_ENTRIES};
 ghost use Rattle.languages.specs.Cells.{long};
 ghost use Rattle.queries.specs.Calls.{pair_rows, found_in};
-ghost use Rattle.queries.specs.Conditions.{entries_in, whole_cell, chosen_in};
+ghost use Rattle.queries.specs.Conditions.{entries_in, whole_cell};
+ghost use Rattle.queries.specs.Taking.{chosen_in};
 ghost use Rattle.queries.specs.Pairs.{tallied};
 ghost use Rattle.refusals.specs.Rows.{first_refusal};
 ghost use Rattle.tables.specs.declared.cell.TheConstants.{MOST_STEPS};
@@ -23,6 +24,7 @@ pub(crate) struct Evaluated<'a> {
     ghost few: { entries ≤ ROOM_ENTRIES },
     ghost ready: { first_refusal (pair_rows query.now cells.now None) ≡ None },
     ghost unaltered: { Unaltered query.now cells.now },
+    ghost short: { LinesWithin LINE query.now cells.now },
 }
 
 impl Evaluated<'_> {

@@ -1,13 +1,17 @@
-// The program's input: a wording, byte 10 and a book file.
-ghost use Rattle.std.specs.Prelude.{◌≡◌, ℕ, ◌≤◌, length, ◌==◌};
+// The two parts of the program's input, and the value kind that the second tells.
+ghost use Rattle.std.specs.Prelude.{◌≡◌, ℕ, ◌==◌};
 ghost use Rattle.std.specs.List.{position};
 ghost use Rattle.asking.specs.Input.{wording, book_file, value_kind};
 
-use kinds::day::Day;
-use kinds::kind::Kind;
-
-// The program takes at most so many bytes.
+/// The program takes at most so many bytes.
 pub const MOST_INPUT: usize = 8192;
+
+/// A wording, and the file of the book that it is asked of.
+#[derive(Debug, Clone, Copy)]
+pub struct Input<'a> {
+    pub wording: &'a [u8],
+    pub book_file: &'a [u8],
+}
 
 // Where the first byte 10 stands.
 fn newline_at(input: &[u8]) -> Option<usize>
@@ -16,33 +20,29 @@ fn newline_at(input: &[u8]) -> Option<usize>
     input.iter().position(|byte| *byte == b'\n')
 }
 
-// The wording: what stands before the first byte 10, or all of it where there is none.
-pub fn wording(input: &[u8]) -> &[u8]
-    ensures { result.now ≡ wording input.now }
+/// Splits an input at its first byte 10. One that has none is a wording as a whole, and its book file has no bytes.
+pub fn split(input: &[u8]) -> Input<'_>
+    ensures wording { result.wording.now ≡ wording input.now }
+    ensures book_file { result.book_file.now ≡ book_file input.now }
 {
     match newline_at(input) {
-        Some(at) => &input[..at],
-        None => input,
+        Some(at) => Input {
+            wording: &input[..at],
+            book_file: &input[at + 1..],
+        },
+        None => Input {
+            wording: input,
+            book_file: &[],
+        },
     }
 }
 
-// The book file: what stands behind the first byte 10, or nothing where there is none.
-pub fn book_file(input: &[u8]) -> &[u8]
-    ensures is { result.now ≡ book_file input.now }
-    ensures within { length result.now ≤ length input.now }
-{
-    match newline_at(input) {
-        Some(at) => &input[at + 1..],
-        None => &[],
-    }
-}
-
-// Whether the head of a file says that the values are days.
-pub fn holds_days(file: &[u8]) -> bool
-    ensures { result ≡ (value_kind file.now == 2) }
+/// The value kind that the head of a file tells; 0 where the file is too short for a head.
+pub fn value_kind(file: &[u8]) -> u16
+    ensures { result ≡ value_kind file.now }
 {
     match file {
-        [_, _, _, _, low, high, ..] => u16::from_le_bytes([*low, *high]) == Day::NUMBER,
-        _ => false,
+        [_, _, _, _, low, high, ..] => u16::from_le_bytes([*low, *high]),
+        _ => 0,
     }
 }

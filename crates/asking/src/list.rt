@@ -1,20 +1,18 @@
 // The lines of an answer, each made at its place in the text.
-ghost use Rattle.std.specs.Prelude.{◌≡◌, ℕ, ◌<◌, ◌≤◌, ◌+◌, ◌*◌, length};
+ghost use Rattle.std.specs.Prelude.{◌≡◌, ℕ, ◌<◌, ◌≤◌, ◌+◌, length};
 ghost use Rattle.listing.specs.Lines.{Laid};
 ghost use Rattle.listing.specs.Puts.{PutAt};
-ghost use Rattle.queries.specs.Calls.{found_in};
-ghost use Rattle.asking.specs.Input.{most_text};
-ghost use Rattle.asking.specs.Tells.{told, led, pair_text, row_text, listing_text};
+ghost use Rattle.asking.specs.Tells.{line_of, row_of, lines_of};
 
 use crate::evaluated::Evaluated;
-use crate::room::LINE;
+use crate::room::NO_STEP;
 use languages::step::Step;
 use listing::lines::{first_line, long_line, pair_line};
 use queries::found::Found;
 use tables::cell::MOST_STEPS;
 
 // Puts the line of a pair at a place of a text, where a path joins the pair, and tells where it ends.
-fn put_pair(
+pub(crate) fn put_pair(
     text: &mut [u8],
     at: usize,
     evaluated: Evaluated,
@@ -25,9 +23,8 @@ fn put_pair(
     requires first { u < evaluated.entries }
     requires second { v < evaluated.entries }
     requires path { MOST_STEPS ≤ length steps.old }
-    requires room { at + LINE ≤ length text.old }
-    ensures put { PutAt (pair_text u v (led evaluated.entry u v) (found_in (told evaluated.entry u v))) at result text.old text.new }
-    ensures short { result ≤ at + LINE }
+    requires room { at + length (line_of evaluated u v) ≤ length text.old }
+    ensures { PutAt (line_of evaluated.entry u v) at result text.old text.new }
 {
     match evaluated.found(u, v) {
         Found::Steps(count) => {
@@ -43,9 +40,8 @@ fn put_pair(
 fn put_row(text: &mut [u8], at: usize, evaluated: Evaluated, u: usize, steps: &mut [Step]) -> usize
     requires first { u < evaluated.entries }
     requires path { MOST_STEPS ≤ length steps.old }
-    requires room { at + LINE * evaluated.entries ≤ length text.old }
-    ensures put { PutAt (row_text (told evaluated.entry) (led evaluated.entry) u evaluated.entry.entries) at result text.old text.new }
-    ensures short { result ≤ at + LINE * evaluated.entry.entries }
+    requires room { at + length (row_of evaluated u) ≤ length text.old }
+    ensures { PutAt (row_of evaluated.entry u) at result text.old text.new }
 {
     let mut end = at;
     // An entry is known by its number.
@@ -57,13 +53,10 @@ fn put_row(text: &mut [u8], at: usize, evaluated: Evaluated, u: usize, steps: &m
 
 // Puts the first line, and the lines of all pairs, at the front of a text, and tells where they end.
 pub(crate) fn list(text: &mut [u8], evaluated: Evaluated) -> usize
-    requires { most_text ≤ length text.old }
-    ensures { Laid (listing_text (told evaluated.entry) (led evaluated.entry) evaluated.entry.entries) text.old text.new result }
+    requires { length (lines_of evaluated) ≤ length text.old }
+    ensures { Laid (lines_of evaluated.entry) text.old text.new result }
 {
-    let mut steps = [Step {
-        letter: 0,
-        entry: 0,
-    }; MOST_STEPS];
+    let mut steps = [NO_STEP; MOST_STEPS];
     let mut end = first_line(evaluated.entries, evaluated.tally(), text).unwrap();
     // By number, as in `put_row`.
     for u in 0..evaluated.entries {

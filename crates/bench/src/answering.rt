@@ -9,7 +9,7 @@ use asking::room::MOST_TEXT;
 use files::write::write_book;
 use std::alloc::Global;
 
-// The input: a wording, byte 10 and a book file.
+// An input that asks this wording of a made book.
 fn make_input(alloc: Global, size: Size, wording: &[u8]) -> anyhow::Result<Vec<u8>> {
     let mut file = vec![in alloc; 0; MOST_BYTES]?;
     let values = make_names(alloc, size)?;

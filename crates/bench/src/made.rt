@@ -4,6 +4,7 @@ use graphs::link::Link;
 use kinds::calendar::Calendar;
 use kinds::day::Day;
 use kinds::name::Name;
+use samples::ring::ring_link;
 use std::alloc::{AllocError, Global};
 
 // How large the book is: its entries, the bytes of its longest names, and its links.
@@ -66,13 +67,14 @@ pub(crate) fn make_links(alloc: Global, size: Size) -> Result<Vec<Link>, AllocEr
     for place in 0..size.links {
         let from = place / 4 % entries;
         let letter = [b'a', b'b', b'c', b'd'][place % 4];
-        let mut to = (from + 1) % entries;
-        if letter != b'a' {
+        links.push(if letter == b'a' {
+            ring_link(entries, from)
+        } else {
             drawn = draw(drawn);
             // The upper bits, as the lower ones soon come again.
-            to = (drawn >> 33) % entries;
-        }
-        links.push(Link { from, letter, to })?;
+            let to = (drawn >> 33) % entries;
+            Link { from, letter, to }
+        })?;
     }
     Ok(links)
 }

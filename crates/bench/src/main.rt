@@ -1,4 +1,4 @@
-// Reads lines `WHAT ENTRIES NAME LINKS ROUNDS WORDING`, does so often what each says over a made book, and prints a line of sums for it: what bench/run measures.
+//! Reads lines `WHAT ENTRIES NAME LINKS ROUNDS WORDING`, does so often what each says over a made book, and prints a line of sums for it: what bench/run measures.
 #![tactic(auto)]
 
 mod answering;

@@ -2,10 +2,8 @@
 
 use queries::found::Found;
 use refusals::Refusal;
+use samples::ring::RING;
 use std::fmt;
-
-// How many entries the ring has.
-pub(crate) const RING: usize = 125;
 
 // What a question is asked of.
 #[derive(Clone, Copy)]

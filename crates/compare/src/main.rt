@@ -1,4 +1,4 @@
-// Asks the library the settled examples that are not proved of the definitions, compares what it finds with what it should, and prints a line for each.
+//! Asks the library worked examples that are not proved of the definitions, compares what it finds with what it should, and prints a line for each.
 #![tactic(auto)]
 
 mod example;
@@ -60,7 +60,7 @@ const EXAMPLES: [Example; 7] = [
 
 // Prints what is found for an example, and tells whether it is what it should be.
 fn compare(rt: HostRuntime, example: &Example, table: &mut [u32]) -> anyhow::Result<bool> {
-    let found = find(example.asked, table);
+    let found = find(rt.alloc(), example.asked, table)?;
     let agrees = found == example.wanted;
     if agrees {
         println!(rt; "{} {}", example.asked, found)?;

@@ -1,15 +1,23 @@
 // Days that are the same, and days that do not exist.
-use crate::day;
-use kinds::calendar::{Calendar, UnknownCalendar};
+use crate::values::day;
+use kinds::calendar::Calendar::{Gregorian, Julian};
+use kinds::calendar::UnknownCalendar;
 
 #[test]
 fn numbers(rt: HostRuntime) {
-    assert_eq!(rt; day(Calendar::Gregorian, 1900, 1, 1).number(), 1);
-    assert_eq!(rt; day(Calendar::Julian, 1900, 1, 1).number(), 13);
-    assert_eq!(rt; day(Calendar::Julian, 1900, 2, 29).number(), 72);
-    assert_eq!(rt; day(Calendar::Julian, 2023, 12, 25).number(), 45297);
-    assert_eq!(rt; day(Calendar::Gregorian, 2024, 1, 7).number(), 45297);
-    assert_eq!(rt; day(Calendar::Gregorian, 2199, 12, 31).number(), 109573);
+    let rows = [
+        (day(Gregorian, 1900, 1, 1), 1),
+        (day(Julian, 1900, 1, 1), 13),
+        (day(Julian, 1900, 2, 29), 72),
+        (day(Gregorian, 2001, 3, 4), 36953),
+        (day(Julian, 2001, 2, 19), 36953),
+        (day(Julian, 2023, 12, 25), 45297),
+        (day(Gregorian, 2024, 1, 7), 45297),
+        (day(Gregorian, 2199, 12, 31), 109573),
+    ];
+    for (day, number) in rows {
+        assert_eq!(rt; day.number(), number);
+    }
 }
 
 // That printing can succeed, which no contract says.
@@ -19,29 +27,48 @@ fn printed(rt: HostRuntime) {
     assert!(rt; text.is_ok_and(|text| text.as_str() == "no calendar has the number 7"));
 }
 
+// Two dates, and whether they are one day. Fields out of range stand for some day.
 #[test]
 fn sameness(rt: HostRuntime) {
-    let christmas = day(Calendar::Julian, 2023, 12, 25);
-    assert!(rt; christmas == day(Calendar::Gregorian, 2024, 1, 7));
-    assert!(rt; christmas != day(Calendar::Gregorian, 2023, 12, 25));
-}
-
-// Fields out of range stand for some day.
-#[test]
-fn any_fields(rt: HostRuntime) {
-    assert!(rt; day(Calendar::Gregorian, 1899, 0, 0) == day(Calendar::Gregorian, 2199, 12, 31));
-    assert!(rt; day(Calendar::Gregorian, 2200, 13, 32) == day(Calendar::Gregorian, 1900, 1, 1));
+    let rows = [
+        (day(Julian, 2023, 12, 25), day(Gregorian, 2024, 1, 7), true),
+        (
+            day(Julian, 2023, 12, 25),
+            day(Gregorian, 2023, 12, 25),
+            false,
+        ),
+        (day(Julian, 2023, 2, 31), day(Julian, 2023, 2, 3), true),
+        (
+            day(Gregorian, 1899, 0, 0),
+            day(Gregorian, 2199, 12, 31),
+            true,
+        ),
+        (
+            day(Gregorian, 2200, 13, 32),
+            day(Gregorian, 1900, 1, 1),
+            true,
+        ),
+    ];
+    for (place, (first, second, same)) in rows.into_iter().enumerate() {
+        assert!(rt; (first == second) == same, "row {place}");
+        assert!(rt; (first != second) != same, "row {place}");
+    }
 }
 
 #[test]
 fn existence(rt: HostRuntime) {
-    assert!(rt; day(Calendar::Julian, 1900, 2, 29).exists());
-    assert!(rt; !day(Calendar::Gregorian, 1900, 2, 29).exists());
-    assert!(rt; day(Calendar::Gregorian, 2000, 2, 29).exists());
-    assert!(rt; !day(Calendar::Gregorian, 2023, 2, 29).exists());
-    assert!(rt; !day(Calendar::Gregorian, 2023, 13, 1).exists());
-    assert!(rt; !day(Calendar::Gregorian, 2023, 4, 31).exists());
-    assert!(rt; !day(Calendar::Gregorian, 2023, 4, 0).exists());
-    assert!(rt; !day(Calendar::Julian, 1899, 12, 31).exists());
-    assert!(rt; !day(Calendar::Julian, 2200, 1, 1).exists());
+    let rows = [
+        (day(Julian, 1900, 2, 29), true),
+        (day(Gregorian, 1900, 2, 29), false),
+        (day(Gregorian, 2000, 2, 29), true),
+        (day(Gregorian, 2023, 2, 29), false),
+        (day(Gregorian, 2023, 13, 1), false),
+        (day(Gregorian, 2023, 4, 31), false),
+        (day(Gregorian, 2023, 4, 0), false),
+        (day(Julian, 1899, 12, 31), false),
+        (day(Julian, 2200, 1, 1), false),
+    ];
+    for (place, (day, exists)) in rows.into_iter().enumerate() {
+        assert!(rt; day.exists() == exists, "row {place}");
+    }
 }

@@ -1,8 +1,7 @@
 // Sources and layers of them, asked their four questions.
-use crate::day;
+use crate::values::{day, link};
 use graphs::book::Book;
 use graphs::layers::{Reversed, WithoutLetter};
-use graphs::link::Link;
 use graphs::sheet::Sheet;
 use graphs::source::Source;
 use kinds::calendar::Calendar;
@@ -10,25 +9,26 @@ use kinds::kind::Payload;
 use kinds::name::NamePayload;
 use std::test::Fail;
 
-fn link(from: usize, letter: u8, to: usize) -> Option<Link> {
-    Some(Link { from, letter, to })
-}
-
 #[test]
 fn february_and_march(rt: HostRuntime) -> Result<(), Fail> {
     let sheet = Sheet::new(2023, 2, 2)?;
     assert_eq!(rt; sheet.entries(), 59);
     assert_eq!(rt; sheet.places(), 177);
-    assert_eq!(rt; sheet.link_at(0), link(0, b'd', 1));
-    assert_eq!(rt; sheet.link_at(1), link(0, b'w', 7));
-    assert_eq!(rt; sheet.link_at(2), link(0, b'm', 28));
-    assert_eq!(rt; sheet.link_at(83), link(27, b'm', 55));
-    assert_eq!(rt; sheet.link_at(86), None);
-    assert_eq!(rt; sheet.link_at(174), None);
-    assert_eq!(rt; sheet.link_at(177), None);
-    assert!(rt; sheet.same(0, 28));
-    assert!(rt; !sheet.same(0, 29));
-    assert!(rt; !sheet.same(0, 59));
+    let rows = [
+        (0, Some(link(0, b'd', 1))),
+        (1, Some(link(0, b'w', 7))),
+        (2, Some(link(0, b'm', 28))),
+        (83, Some(link(27, b'm', 55))),
+        (86, None),
+        (174, None),
+        (177, None),
+    ];
+    for (place, wanted) in rows {
+        assert_eq!(rt; sheet.link_at(place), wanted);
+    }
+    for (second, same) in [(28, true), (29, false), (59, false)] {
+        assert!(rt; sheet.same(0, second) == same);
+    }
     Ok(())
 }
 
@@ -36,27 +36,30 @@ fn february_and_march(rt: HostRuntime) -> Result<(), Fail> {
 fn leap_february(rt: HostRuntime) -> Result<(), Fail> {
     let sheet = Sheet::new(2024, 1, 3)?;
     assert_eq!(rt; sheet.entries(), 91);
-    assert_eq!(rt; sheet.link_at(3 * 28 + 2), link(28, b'm', 59));
+    assert_eq!(rt; sheet.link_at(3 * 28 + 2), Some(link(28, b'm', 59)));
     assert_eq!(rt; sheet.link_at(3 * 29 + 2), None);
     Ok(())
 }
 
+// A year, its first month, how many months, and whether there is such a sheet.
 #[test]
-fn sheets_out_of_range(rt: HostRuntime) {
-    assert!(rt; refused(1899, 1, 1));
-    assert!(rt; refused(2200, 1, 1));
-    assert!(rt; refused(2023, 0, 1));
-    assert!(rt; refused(2023, 13, 1));
-    assert!(rt; refused(2023, 1, 0));
-    assert!(rt; refused(2023, 1, 4));
-    assert!(rt; refused(2023, 12, 2));
-    assert!(rt; !refused(2023, 12, 1));
-}
-
-fn refused(year: u16, month: u8, count: u8) -> bool {
-    match Sheet::new(year, month, count) {
-        Ok(_) => false,
-        Err(refusal) => refusal.number() == 18 && refusal.place() == 0,
+fn sheets_in_range(rt: HostRuntime) {
+    let rows = [
+        (1899, 1, 1, false),
+        (2200, 1, 1, false),
+        (2023, 0, 1, false),
+        (2023, 13, 1, false),
+        (2023, 1, 0, false),
+        (2023, 1, 4, false),
+        (2023, 12, 2, false),
+        (2023, 12, 1, true),
+    ];
+    for (place, (year, month, count, accepted)) in rows.into_iter().enumerate() {
+        let met = match Sheet::new(year, month, count) {
+            Ok(_) => accepted,
+            Err(refusal) => !accepted && refusal.number() == 18 && refusal.place() == 0,
+        };
+        assert!(rt; met, "row {place}");
     }
 }
 
@@ -73,23 +76,7 @@ fn piles_on_a_book(rt: HostRuntime) {
         day(Calendar::Julian, 2023, 12, 25),
         day(Calendar::Gregorian, 2024, 1, 7),
     ];
-    let links = [
-        Link {
-            from: 0,
-            letter: b'c',
-            to: 1,
-        },
-        Link {
-            from: 1,
-            letter: b'p',
-            to: 0,
-        },
-        Link {
-            from: 0,
-            letter: b'c',
-            to: 2,
-        },
-    ];
+    let links = [link(0, b'c', 1), link(1, b'p', 0), link(0, b'c', 2)];
     let pile = turned_without(
         Book {
             values: &days,
@@ -99,10 +86,10 @@ fn piles_on_a_book(rt: HostRuntime) {
     );
     assert_eq!(rt; pile.entries(), 2);
     assert_eq!(rt; pile.places(), 3);
-    assert_eq!(rt; pile.link_at(0), link(1, b'c', 0));
-    assert_eq!(rt; pile.link_at(1), None);
-    assert_eq!(rt; pile.link_at(2), None);
-    assert_eq!(rt; pile.link_at(3), None);
+    let wanted = [Some(link(1, b'c', 0)), None, None, None];
+    for (place, link) in wanted.into_iter().enumerate() {
+        assert_eq!(rt; pile.link_at(place), link);
+    }
     assert!(rt; pile.same(0, 1));
     assert!(rt; !pile.same(0, 2));
 }
@@ -113,11 +100,7 @@ fn piles_on_names(rt: HostRuntime) -> Result<(), Fail> {
         NamePayload::decode(b"All Souls").ok_or("no name")?,
         NamePayload::decode(b"All Soul").ok_or("no name")?,
     ];
-    let links = [Link {
-        from: 0,
-        letter: b'c',
-        to: 1,
-    }];
+    let links = [link(0, b'c', 1)];
     let pile = Reversed {
         below: Reversed {
             below: Book {
@@ -126,7 +109,7 @@ fn piles_on_names(rt: HostRuntime) -> Result<(), Fail> {
             },
         },
     };
-    assert_eq!(rt; pile.link_at(0), link(0, b'c', 1));
+    assert_eq!(rt; pile.link_at(0), Some(link(0, b'c', 1)));
     assert!(rt; pile.same(1, 1));
     assert!(rt; !pile.same(0, 1));
     Ok(())
@@ -141,7 +124,36 @@ fn piles_on_a_sheet(rt: HostRuntime) -> Result<(), Fail> {
     assert_eq!(rt; pile.entries(), 59);
     assert_eq!(rt; pile.link_at(0), None);
     assert_eq!(rt; pile.link_at(1), None);
-    assert_eq!(rt; pile.link_at(2), link(28, b'm', 0));
+    assert_eq!(rt; pile.link_at(2), Some(link(28, b'm', 0)));
     assert!(rt; pile.same(0, 28));
     Ok(())
+}
+
+// The book of three values in docs/SOURCES.md, and the layers over it.
+#[test]
+fn links_that_read_as_nothing(rt: HostRuntime) {
+    let looped = link(2, b'c', 2);
+    let links = [link(0, b'a', 1), link(1, b'B', 2), link(2, b'a', 3), looped];
+    let book = Book {
+        values: &[day(Calendar::Gregorian, 2001, 3, 4); 3],
+        links: &links,
+    };
+    let below = Reversed { below: book };
+    let pile = WithoutLetter {
+        below,
+        letter: b'c',
+    };
+    let back = Some(link(1, b'a', 0));
+    let rows = [
+        (Some(link(0, b'a', 1)), back, back),
+        (None, None, None),
+        (None, None, None),
+        (Some(looped), Some(looped), None),
+        (None, None, None),
+    ];
+    for (place, (held, turned, thinned)) in rows.into_iter().enumerate() {
+        assert_eq!(rt; book.link_at(place), held);
+        assert_eq!(rt; below.link_at(place), turned);
+        assert_eq!(rt; pile.link_at(place), thinned);
+    }
 }

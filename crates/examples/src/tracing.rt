@@ -1,5 +1,5 @@
 // Paths that are traced, and every refusal of a trace.
-use crate::ALL_SOULS;
+use crate::values::step;
 use files::read::read_book;
 use graphs::book::Book;
 use graphs::link::Link;
@@ -8,6 +8,7 @@ use languages::step::Step;
 use queries::Query;
 use queries::found::Found;
 use refusals::Refusal;
+use samples::books::ALL_SOULS_FILE;
 use std::test::Fail;
 
 const UNWRITTEN: Step = Step {
@@ -15,15 +16,11 @@ const UNWRITTEN: Step = Step {
     entry: 9,
 };
 
-fn step(letter: u8, entry: usize) -> Step {
-    Step { letter, entry }
-}
-
 // Evaluates a wording over All Souls.
 fn evaluate(query: &mut Query, wording: &[u8], table: &mut [u32]) -> Result<(), Refusal> {
     let mut names = [Name::default(); 4];
     let mut links = [Link::default(); 4];
-    read_book::<Name>(ALL_SOULS, &mut names, &mut links)?;
+    read_book::<Name>(ALL_SOULS_FILE, &mut names, &mut links)?;
     let book = Book {
         values: &names,
         links: &links,
@@ -42,23 +39,27 @@ fn leads(wording: &[u8], u: usize, v: usize, path: &[Step]) -> Result<bool, Refu
     Ok(count < 4 && &steps[..count] == path && steps[3] == UNWRITTEN)
 }
 
+// A wording, the ends of a pair, and the steps of its path.
 #[test]
 fn all_souls(rt: HostRuntime) -> Result<(), Fail> {
-    assert!(rt; leads(b"(c+)~", 0, 2, &[step(b'c', 1), step(b'c', 2)])?);
-    assert!(rt; leads(b"(c+)=", 1, 3, &[step(b'c', 2), step(b'c', 3)])?);
-    assert!(rt; leads(b"cc|p", 0, 3, &[step(b'p', 3)])?);
-    assert!(rt; leads(b"p|cc", 0, 2, &[step(b'c', 1), step(b'c', 2)])?);
-    assert!(rt;
-        leads(
+    let rows: [(&[u8], usize, usize, &[Step]); 8] = [
+        (b"(c+)~", 0, 2, &[step(b'c', 1), step(b'c', 2)]),
+        (b"(c+)=", 1, 3, &[step(b'c', 2), step(b'c', 3)]),
+        (b"cc|p", 0, 3, &[step(b'p', 3)]),
+        (b"p|cc", 0, 2, &[step(b'c', 1), step(b'c', 2)]),
+        (
             b"((c+)~c)=",
             0,
             3,
-            &[step(b'c', 1), step(b'c', 2), step(b'c', 3)]
-        )?
-    );
-    assert!(rt; leads(b"c*", 1, 2, &[step(b'c', 2)])?);
-    assert!(rt; leads(b"c*", 1, 1, &[])?);
-    assert!(rt; leads(b"0", 2, 2, &[])?);
+            &[step(b'c', 1), step(b'c', 2), step(b'c', 3)],
+        ),
+        (b"c*", 1, 2, &[step(b'c', 2)]),
+        (b"c*", 1, 1, &[]),
+        (b"0", 2, 2, &[]),
+    ];
+    for (place, (wording, u, v, path)) in rows.into_iter().enumerate() {
+        assert!(rt; leads(wording, u, v, path)?, "row {place}");
+    }
     Ok(())
 }
 

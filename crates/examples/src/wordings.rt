@@ -1,50 +1,40 @@
 // Wordings that are read, and wordings that are refused at their places.
-use crate::answers;
 use expressions::parse::parse;
 use expressions::part::Part;
 use refusals::Refusal;
 use std::test::Fail;
 
-// Whether a wording is read, with so many parts.
-fn has_parts(text: &[u8], count: usize) -> bool {
-    match parse(text) {
-        Ok(parts) => parts.as_slice().len() == count,
-        Err(_) => false,
-    }
+// How many parts a wording has.
+fn size(wording: &[u8]) -> Result<usize, Refusal> {
+    Ok(parse(wording)?.as_slice().len())
 }
 
-fn refused(text: &[u8], why: Refusal) -> bool {
-    match parse(text) {
-        Ok(_) => false,
-        Err(refusal) => refusal == why,
-    }
+fn stops_at(at: usize) -> Result<usize, Refusal> {
+    Err(Refusal::NotAnExpression { at })
 }
 
-fn stops_at(text: &[u8], at: usize) -> bool {
-    refused(text, Refusal::NotAnExpression { at })
-}
-
-// Signs bind before joining, joining before `|`, and both group to the left.
+// What goes with what is seen from the numbers: a sign takes the item before it, neighbours join before a `|` parts them, and of three the first two belong together.
 #[test]
 fn numbering(rt: HostRuntime) -> Result<(), Fail> {
     let parts = parse(b"ab|cd+e*|(0)=~")?;
-    let list = parts.as_slice();
-    assert_eq!(rt; list.len(), 15);
-    assert_eq!(rt; list[0], Part::Letter(b'a'));
-    assert_eq!(rt; list[1], Part::Letter(b'b'));
-    assert_eq!(rt; list[2], Part::Join { left: 0 });
-    assert_eq!(rt; list[3], Part::Letter(b'c'));
-    assert_eq!(rt; list[4], Part::Letter(b'd'));
-    assert_eq!(rt; list[5], Part::Plus);
-    assert_eq!(rt; list[6], Part::Join { left: 3 });
-    assert_eq!(rt; list[7], Part::Letter(b'e'));
-    assert_eq!(rt; list[8], Part::Star);
-    assert_eq!(rt; list[9], Part::Join { left: 6 });
-    assert_eq!(rt; list[10], Part::Either { left: 2 });
-    assert_eq!(rt; list[11], Part::Epsilon);
-    assert_eq!(rt; list[12], Part::Same);
-    assert_eq!(rt; list[13], Part::Differ);
-    assert_eq!(rt; list[14], Part::Either { left: 10 });
+    let wanted = [
+        Part::Letter(b'a'),
+        Part::Letter(b'b'),
+        Part::Join { left: 0 },
+        Part::Letter(b'c'),
+        Part::Letter(b'd'),
+        Part::Plus,
+        Part::Join { left: 3 },
+        Part::Letter(b'e'),
+        Part::Star,
+        Part::Join { left: 6 },
+        Part::Either { left: 2 },
+        Part::Epsilon,
+        Part::Same,
+        Part::Differ,
+        Part::Either { left: 10 },
+    ];
+    assert!(rt; parts.as_slice() == wanted.as_slice());
     Ok(())
 }
 
@@ -67,43 +57,58 @@ fn listed_parts(rt: HostRuntime) -> Result<(), Fail> {
 
 #[test]
 fn places(rt: HostRuntime) {
-    assert!(rt; stops_at(b"", 0));
-    assert!(rt; stops_at(b"a|", 2));
-    assert!(rt; stops_at(b"a)", 1));
-    assert!(rt; stops_at(b"a||b", 2));
-    assert!(rt; stops_at(b"|a", 0));
-    assert!(rt; stops_at(b"+", 0));
-    assert!(rt; stops_at(b"a(+)", 2));
-    assert!(rt; stops_at(b"(a", 2));
-    assert!(rt; stops_at(b"()", 1));
-    assert!(rt; stops_at(b"((a)", 4));
-    assert!(rt; stops_at(b"a b", 1));
-    assert!(rt; stops_at(b"aB", 1));
-    assert!(rt; stops_at(b"a1", 1));
-    assert!(rt; stops_at(b"\xff", 0));
-    assert!(rt; answers(rt.alloc(), b"a|\n", b"refused 21 at 2\n"));
+    let rows: [(&[u8], usize); 14] = [
+        (b"", 0),
+        (b"a|", 2),
+        (b"a)", 1),
+        (b"a||b", 2),
+        (b"|a", 0),
+        (b"+", 0),
+        (b"a(+)", 2),
+        (b"(a", 2),
+        (b"()", 1),
+        (b"((a)", 4),
+        (b"a b", 1),
+        (b"aB", 1),
+        (b"a1", 1),
+        (b"\xff", 0),
+    ];
+    for (wording, at) in rows {
+        assert_eq!(rt; size(wording), stops_at(at));
+    }
 }
 
 #[test]
 fn limits(rt: HostRuntime) {
-    assert!(rt; has_parts(b"aaaaaaaaaaaaaaaa+", 32));
-    assert!(rt; refused(b"aaaaaaaaaaaaaaaa+*", Refusal::TooManyParts));
-    assert!(rt; refused(&[b'a'; 200], Refusal::TooManyParts));
-    assert!(rt; refused(&[b'a'; 201], Refusal::WordingTooLong));
-    assert!(rt; refused(&[b'('; 201], Refusal::WordingTooLong));
-    assert!(rt; stops_at(&[b'('; 200], 200));
+    let rows: [(&[u8], Result<usize, Refusal>); 6] = [
+        (b"aaaaaaaaaaaaaaaa+", Ok(32)),
+        (b"aaaaaaaaaaaaaaaa+*", Err(Refusal::TooManyParts)),
+        (&[b'a'; 200], Err(Refusal::TooManyParts)),
+        (&[b'a'; 201], Err(Refusal::WordingTooLong)),
+        (&[b'('; 201], Err(Refusal::WordingTooLong)),
+        (&[b'('; 200], stops_at(200)),
+    ];
+    for (wording, wanted) in rows {
+        assert_eq!(rt; size(wording), wanted);
+    }
 }
 
 // 99 brackets opened and closed around a letter, and around two.
 #[test]
 fn deep(rt: HostRuntime) {
-    let mut text = [b')'; 201];
-    text[0..99].copy_from_slice(&[b'('; 99]);
-    text[99] = b'a';
-    assert!(rt; has_parts(&text[0..199], 1));
-    assert!(rt; stops_at(&text[0..198], 198));
-    assert!(rt; stops_at(&text[0..200], 199));
-    text[100] = b'a';
-    assert!(rt; has_parts(&text[0..200], 3));
-    assert!(rt; stops_at(&text[0..199], 199));
+    let mut one = [b')'; 201];
+    one[0..99].copy_from_slice(&[b'('; 99]);
+    one[99] = b'a';
+    let mut two = one;
+    two[100] = b'a';
+    let rows: [(&[u8], Result<usize, Refusal>); 5] = [
+        (&one[0..199], Ok(1)),
+        (&one[0..198], stops_at(198)),
+        (&one[0..200], stops_at(199)),
+        (&two[0..200], Ok(3)),
+        (&two[0..199], stops_at(199)),
+    ];
+    for (wording, wanted) in rows {
+        assert_eq!(rt; size(wording), wanted);
+    }
 }

@@ -11,7 +11,7 @@ use Rattle.expressions.specs.Grammar.{most_bytes, most_parts, Expression}
 use Rattle.expressions.specs.Numbering.{parts_from, well_formed}
 use Rattle.expressions.specs.Reads.{Kept, Whole}
 use Rattle.expressions.specs.Storing.{parts_of, Stored}
-use Rattle.expressions.specs.Wordings.{Fails, Refused, too_long, no_expression, too_many_parts, Parsed, Decided}
+use Rattle.expressions.specs.Wordings.{Fails, RefusedAs, too_long, no_expression, too_many_parts, Parsed, Decided}
 use Rattle.expressions.proofs.Numbered.{length-parts, some, decodes, formed_parts}
 
 -- where none was lost, the parts of the expression are at the front
@@ -41,7 +41,7 @@ one_place : (t : List ℕ) (i j : ℕ) → Fails t i → Fails t j → i ≡ j
 one_place t i j x y = grind (arith, x.longest j, y.longest i, x.within, y.within, x.begins, y.begins)
 
 -- refusals do not contradict each other, nor an expression within the limits
-refused_once : {t : List ℕ} {x y : Refusal} → Refused t x → Refused t y → x ≡ y
+refused_once : {t : List ℕ} {x y : Refusal} {n at m to : ℕ} → RefusedAs t x n at → RefusedAs t y m to → x ≡ y
 refused_once (too_long a) (too_long b) = refl
 refused_once (too_long a) (no_expression b c) = absurd (omega arith)
 refused_once (too_long a) (too_many_parts b c d) = absurd (omega arith)
@@ -52,7 +52,7 @@ refused_once (too_many_parts a b c) (too_long d) = absurd (omega arith)
 refused_once (too_many_parts {e} a b c) (no_expression d f) = absurd (f.no_expression e b.stands)
 refused_once (too_many_parts a b c) (too_many_parts d f g) = refl
 
-not_both : {t : List ℕ} {x : Refusal} (e : Expr) → Expression t e → length t ≤ most_bytes → size e ≤ most_parts → Refused t x → ⊥
+not_both : {t : List ℕ} {x : Refusal} {n at : ℕ} (e : Expr) → Expression t e → length t ≤ most_bytes → size e ≤ most_parts → RefusedAs t x n at → ⊥
 not_both e d h k (too_long a) = omega arith
 not_both e d h k (no_expression a b) = b.no_expression e d
 not_both e d h k (too_many_parts a b c) = let n : size e ≡ _ = ap size (b.only e d) in omega arith

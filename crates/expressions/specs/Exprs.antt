@@ -12,7 +12,7 @@ pub data Expr : Type 0 where
   same : Expr → Expr
   differ : Expr → Expr
 
--- how many parts an expression has: each letter, `0`, sign, `|` and joining of neighbours is one
+-- how many parts an expression has: one for itself, and those of the expressions that it is made of
 abbrev pub size : Expr → ℕ
 size epsilon = 1
 size (letter c) = 1

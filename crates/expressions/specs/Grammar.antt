@@ -44,22 +44,22 @@ abbrev pub nought : ℕ
 nought = 48
 
 mutual
-  -- an expression is one or more runs with `|` between them, which groups to the left
+  -- an expression: a run alone, or with `|` and a run behind an expression; so of three runs the first two belong together
   pub data Expression : List ℕ → Expr → Type 0 where
     a_run : {t : List ℕ} {e : Expr} → Run t e → Expression t e
     or_run : {t u : List ℕ} {e f : Expr} → Expression t e → Run u f → Expression (t ++ (bar ∷ u)) (either e f)
 
-  -- a run is one or more items side by side; joining groups to the left
+  -- a run: an item alone, or with an item behind a run; so of three items the first two are joined first
   pub data Run : List ℕ → Expr → Type 0 where
     an_item : {t : List ℕ} {e : Expr} → Item t e → Run t e
     and_item : {t u : List ℕ} {e f : Expr} → Run t e → Item u f → Run (t ++ u) (join e f)
 
-  -- an item is an atom followed by any number of signs
+  -- an item: an atom alone, or with a sign behind an item
   pub data Item : List ℕ → Expr → Type 0 where
     an_atom : {t : List ℕ} {e : Expr} → Atom t e → Item t e
     with_sign : {t : List ℕ} {e : Expr} → Item t e → (s : Sign) → Item (t ++ (byte s ∷ [])) (signed s e)
 
-  -- an atom is a letter a to z, `0`, or an expression in round brackets
+  -- an atom: a letter a to z, the byte `0`, or brackets and an expression between them
   pub data Atom : List ℕ → Expr → Type 0 where
     a_letter : {c : ℕ} → 97 ≤ c → c ≤ 122 → Atom (c ∷ []) (letter c)
     a_nought : Atom (nought ∷ []) epsilon

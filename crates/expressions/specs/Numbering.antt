@@ -4,7 +4,7 @@ use Rattle.expressions.specs.declared.part.Part.{Part}
 use Rattle.expressions.specs.declared.part.Part.TheVariants.{Epsilon, Letter, Either, Join, Plus, Star, Same, Differ}
 use Rattle.expressions.specs.Exprs.{Expr, epsilon, letter, either, join, plus, star, same, differ, size}
 
--- the parts of an expression, numbered from k: all within the left half, then all within the right, then the part made of them
+-- the parts of an expression, numbered from k: those of what it is made of, the left before the right, and at last its own
 unfoldable pub parts_from : ℕ → Expr → List Part
 parts_from k epsilon = Epsilon ∷ []
 parts_from k (letter c) = Letter c ∷ []

@@ -1,5 +1,6 @@
 -- What the reading of a wording answers. Assumes nothing.
 use Rattle.std.specs.Prelude.{◌≡◌, ℕ, ◌<◌, ◌≤◌, List, ◌++◌, length, take, Ok, Err, Result}
+use Rattle.refusals.specs.Table.{number, place}
 use Rattle.refusals.specs.declared.Refusal.{Refusal}
 use Rattle.refusals.specs.declared.Refusal.TheVariants.{WordingTooLong, NotAnExpression, TooManyParts}
 use Rattle.expressions.specs.declared.part.Parts.{Parts}
@@ -35,11 +36,15 @@ pub record Accepted (t : List ℕ) (parts : Parts) : Type 0 where
   pub worded : Worded t expr
   pub stored : Stored expr parts
 
--- a wording is refused, by the first of these that applies
-pub data Refused (t : List ℕ) : Refusal → Type 0 where
-  too_long : most_bytes < length t → Refused t WordingTooLong
-  no_expression : {at : ℕ} → length t ≤ most_bytes → Fails t at → Refused t (NotAnExpression at)
-  too_many_parts : {e : Expr} → length t ≤ most_bytes → Means t e → most_parts < size e → Refused t TooManyParts
+-- a wording is refused, by the first of these that applies: the case, its number and its place
+pub data RefusedAs (t : List ℕ) : Refusal → ℕ → ℕ → Type 0 where
+  too_long : most_bytes < length t → RefusedAs t WordingTooLong 23 0
+  no_expression : {at : ℕ} → length t ≤ most_bytes → Fails t at → RefusedAs t (NotAnExpression at) 21 at
+  too_many_parts : {e : Expr} → length t ≤ most_bytes → Means t e → most_parts < size e → RefusedAs t TooManyParts 22 0
+
+-- a wording is refused so
+abbrev pub Refused : List ℕ → Refusal → Type 0
+Refused t x = RefusedAs t x (number x) (place x)
 
 -- the answer says what is so
 abbrev pub Parsed : List ℕ → Result Parts Refusal → Type 0

@@ -1,4 +1,4 @@
-// Regular expressions with equality: the texts that word them, and the parts that they are stored as.
+//! Regular expressions with equality: the texts that word them, and the parts that they are stored as.
 #![tactic(auto)]
 
 mod draft;

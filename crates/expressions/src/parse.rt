@@ -7,10 +7,10 @@ use crate::part::Parts;
 use crate::reader::{SyntaxError, read};
 use refusals::Refusal;
 
-// A wording has at most so many bytes.
+/// A wording has at most so many bytes.
 pub const MOST_WORDING: usize = 200;
 
-// The parts of the expression that a text stands for.
+/// The parts of the expression that a text stands for.
 pub fn parse(text: &[u8]) -> Result<Parts, Refusal>
     ensures parsed { Parsed text.now result }
     ensures decided { Decided text.now result }

@@ -3,10 +3,10 @@ ghost use Rattle.std.specs.Prelude.{◌≡◌, ℕ, ◌≤◌, true, length, tak
 ghost use Rattle.expressions.specs.Grammar.{most_parts};
 ghost use Rattle.expressions.specs.Numbering.{well_formed};
 
-// An expression has at most so many parts.
+/// An expression has at most so many parts.
 pub const MOST_PARTS: usize = 32;
 
-// One part. What a sign stands behind, and the right half of two, is the part numbered just before; the left half is told by its number.
+/// One part. What a sign stands behind, and the right half of two, is the part numbered just before; the left half is told by its number.
 #[derive(Clone, Copy, PartialEq, Eq, Debug)]
 pub enum Part {
     Epsilon,
@@ -19,7 +19,7 @@ pub enum Part {
     Differ,
 }
 
-// The parts of an expression in their order, each made of parts before it. They lie at the front of a list that has room for the most, as nothing is allocated.
+/// The parts of an expression in their order, each made of parts before it. They lie at the front of a list that has room for the most, as nothing is allocated; the kit's `ArrayVec` would not be `Copy`.
 #[derive(Clone, Copy)]
 pub struct Parts {
     list: [Part; MOST_PARTS],
@@ -42,7 +42,7 @@ impl Parts {
         Parts { list, count }
     }
 
-    // The parts, in their order.
+    /// The parts, in their order.
     pub fn as_slice(&self) -> &[Part]
         ensures front { result.now ≡ parts_of self.now }
         ensures some { 1 ≤ length result.now }

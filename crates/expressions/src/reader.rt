@@ -1,4 +1,4 @@
-// The reader of a text: expression, run, item and atom call each other and leave the parts that they have read.
+// The reader of a text. A function for each kind of stretch calls those for the stretches within, and leaves the parts that it has read.
 // Each moves on behind what it has read, or tells where the text goes wrong.
 ghost use Rattle.std.specs.Prelude.{◌≡◌, ℕ, ◌*◌, ◌<◌, ◌≤◌, length, MatchOption, MatchResult, slice_index, []};
 ghost use Rattle.expressions.specs.Grammar.{most_bytes};
@@ -93,7 +93,7 @@ impl Reader<'_> {
         }
     }
 
-    // A letter, `0`, or an expression in brackets.
+    // One letter, `0`, or what stands in brackets.
     #[cycle(reader)]
     fn atom(&mut self) -> Result<(), SyntaxError>
         ensures text { self.new.text.now ≡ self.old.text.now }

@@ -1,19 +1,25 @@
 -- A book that grows by one record after the other. Assumes nothing.
 use Rattle.std.proofs.Common.{◌≡◌, ℕ, ◌+◌, ◌-◌, ◌<◌, ◌≤◌, true, cond, ◌⊎◌, eqb, List, [], ◌∷◌, ◌++◌, length, get_or, drop, IfSome, Some, None, Option, Ok, sym, refl, ap, ◌∙◌, subst, ⊎_elim, arith}
-use Rattle.std.proofs.ByRecursion.{All-push}
 use Rattle.std.proofs.lemmas.List.{append_assoc, append-nil, length-append, length_push, nil_from_length, get_or-append-add, get_or-take, get_or-drop}
 use Rattle.std.proofs.lemmas.Bool.Decides.{nat_tests}
+use Rattle.std.proofs.lemmas.List.Elements.{All-push, All-from_recursion, recursion_from_All}
 use Rattle.std.proofs.lemmas.Grind.{common_steps}
+use Rattle.std.specs.List.{AllByRecursion}
 use Rattle.std.specs.Option.{option_map}
 use Rattle.graphs.specs.Links.{sound}
 use Rattle.kinds.specs.Payloads.{Shape, valid, word, two_bytes}
 use Rattle.refusals.specs.Rows.{first_refusal}
+use Rattle.refusals.specs.Table.{numbered}
 use Rattle.refusals.specs.declared.Refusal.{Refusal}
 use Rattle.files.specs.declared.counts.Counts.{Counts}
 use Rattle.files.specs.Encoding.{head_kind, entry_kind, link_kind, framed, Raw, written, counts_of, Fits}
 use Rattle.files.specs.Reading.{size_of, kind_of, payload_of, link_of, rows, bytes_so_far, due, Refused}
 use Rattle.files.specs.Walking.{counted, ReadOn, Surveyed}
 use Rattle.files.proofs.Records.{Bytes, split, payload_length, three, two}
+
+-- what holds of each element holds with one more
+all_more : {X : Type 0} (P : X → Type 0) (xs : List X) (x : X) → AllByRecursion P xs → P x → AllByRecursion P (xs ++ x ∷ [])
+all_more P xs x h p = recursion_from_All P (xs ++ x ∷ []) (All-push P xs x (All-from_recursion P xs h) p)
 
 -- the book with one record more
 abbrev pub grown : Option Raw → ℕ → List ℕ → Raw
@@ -53,13 +59,13 @@ module _ (sh : Shape) (room : Counts) where
   entry_grown : (b : Raw) (p : List ℕ) → Fits sh room b → b.links ≡ [] → valid sh p ≡ true → length b.payloads < room.entries → Grown (Some b) entry_kind p
   entry_grown b p fits nil fine space = record {
     bytes = grind (arith, common_steps);
-    fits = record { entries = omega (arith, length_push b.payloads p); links = fits.links; values = All-push _ b.payloads p fits.values fine; all_sound = rw nil tt };
+    fits = record { entries = omega (arith, length_push b.payloads p); links = fits.links; values = all_more _ b.payloads p fits.values fine; all_sound = rw nil tt };
   }
 
   link_grown : (b : Raw) (p : List ℕ) → Fits sh room b → length p ≡ 3 → sound (length b.payloads) (link_of p) ≡ true → length b.links < room.links → Grown (Some b) link_kind p
   link_grown b p fits long fine space = record {
     bytes = let same = three p long in grind (arith, common_steps);
-    fits = record { entries = fits.entries; links = omega (arith, length_push b.links (link_of p)); values = fits.values; all_sound = All-push _ b.links (link_of p) fits.all_sound fine };
+    fits = record { entries = fits.entries; links = omega (arith, length_push b.links (link_of p)); values = fits.values; all_sound = all_more _ b.links (link_of p) fits.all_sound fine };
   }
 
   record_grown : (s : Option Raw) (at : ℕ) (left : List ℕ) → Bytes left → IfSome s (Fits sh room) → first_refusal (rows sh room (option_map counts_of s) at left) ≡ None → Grown s (kind_of left) (payload_of left)
@@ -112,7 +118,7 @@ module _ (sh : Shape) (room : Counts) where
   reach : (bytes left : List ℕ) (read : Option Counts) (g : Going bytes left read) → length (bytes_so_far sh g.book) + length left ≡ length bytes
   reach bytes left read g = omega (arith, ap length g.is, length-append (bytes_so_far sh g.book) left)
 
-  refused_at : (bytes left : List ℕ) (read : Option Counts) (at : ℕ) (x : Refusal) (g : Going bytes left read) → due g.book left ≡ true → at + length left ≡ length bytes → first_refusal (rows sh room read at left) ≡ Some x → Refused sh room bytes x
+  refused_at : (bytes left : List ℕ) (read : Option Counts) (at : ℕ) (x : Refusal) (g : Going bytes left read) → due g.book left ≡ true → at + length left ≡ length bytes → first_refusal (rows sh room read at left) ≡ Some (numbered x) → Refused sh room bytes x
   refused_at bytes left read at x g live here e =
       let offset : at ≡ length (bytes_so_far sh g.book) = omega (arith, reach bytes left read g) in
       record {
@@ -121,13 +127,13 @@ module _ (sh : Shape) (room : Counts) where
         is = g.is;
         fits = g.fits;
         more = live;
-        first = subst (λ n. first_refusal (rows sh room (option_map counts_of g.book) n left) ≡ Some x) offset (subst (λ r. first_refusal (rows sh room r at left) ≡ Some x) g.counts e);
+        first = subst (λ n. first_refusal (rows sh room (option_map counts_of g.book) n left) ≡ Some (numbered x)) offset (subst (λ r. first_refusal (rows sh room r at left) ≡ Some (numbered x)) g.counts e);
       }
 
-  pub head_refused : (bytes : List ℕ) (x : Refusal) → first_refusal (rows sh room None 0 bytes) ≡ Some x → Refused sh room bytes x
+  pub head_refused : (bytes : List ℕ) (x : Refusal) → first_refusal (rows sh room None 0 bytes) ≡ Some (numbered x) → Refused sh room bytes x
   head_refused bytes x e = refused_at bytes bytes None 0 x (going_none bytes) refl (omega arith) e
 
-  pub going_refused : (bytes left : List ℕ) (read : Option Counts) (x : Refusal) → Going bytes left read → 0 < length left → first_refusal (rows sh room read (length bytes - length left) left) ≡ Some x → Refused sh room bytes x
+  pub going_refused : (bytes left : List ℕ) (read : Option Counts) (x : Refusal) → Going bytes left read → 0 < length left → first_refusal (rows sh room read (length bytes - length left) left) ≡ Some (numbered x) → Refused sh room bytes x
   going_refused bytes left read x g h e = refused_at bytes left read (length bytes - length left) x g (due_now g.book left h) (omega (arith, reach bytes left read g)) e
 
   pub going_within : (bytes left : List ℕ) (read : Option Counts) → Going bytes left read → length left ≤ length bytes

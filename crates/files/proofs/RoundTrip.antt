@@ -10,6 +10,7 @@ use Rattle.graphs.specs.Links.{sound, all_sound}
 use Rattle.graphs.specs.declared.link.Link.{Link}
 use Rattle.kinds.specs.Payloads.{Shape, valid, two_bytes}
 use Rattle.refusals.specs.Rows.{first_refusal}
+use Rattle.refusals.specs.Table.{numbered}
 use Rattle.refusals.specs.declared.Refusal.{Refusal}
 use Rattle.refusals.specs.declared.Refusal.TheVariants.{BytesTooShort}
 use Rattle.files.specs.declared.counts.Counts.{Counts}
@@ -46,7 +47,7 @@ module _ {V : Type 0} (sh : Shape) (encoded : V → List ℕ) where
   pub encode_length : (es : List V) (ls : List Link) → length (encode sh encoded es ls) ≡ 6 + length (entry_bytes encoded es) + 7 * length ls
   encode_length es ls = omega (arith, length-append (entry_bytes encoded es) (links_bytes ls), links_length ls)
 
-  pub write_short : (es : List V) (ls : List Link) (room : ℕ) → true ≡ writable (length es) ls → room < length (encode sh encoded es ls) → first_refusal (write_rows sh encoded es ls room) ≡ Some BytesTooShort
+  pub write_short : (es : List V) (ls : List Link) (room : ℕ) → true ≡ writable (length es) ls → room < length (encode sh encoded es ls) → first_refusal (write_rows sh encoded es ls room) ≡ Some (numbered BytesTooShort)
   write_short es ls room fine h = grind (arith, nat_tests)
 
   write_none : (es : List V) (ls : List Link) (room : ℕ) → writable (length es) ls ≡ true → length (encode sh encoded es ls) ≤ room → first_refusal (write_rows sh encoded es ls room) ≡ None
@@ -105,5 +106,5 @@ module _ {V : Type 0} (sh : Shape) (encoded : V → List ℕ) where
       let n : length (map encoded es) ≡ length es = length-map es encoded in
       let fine : writable (length es) ls ≡ true = writable_from (length es) ls (omega (arith, fits.entries)) (omega (arith, fits.links)) (list_all-from_AllPass (sound (length es)) ls (All-from_recursion (λ l. sound (length es) l ≡ true) ls (rw n at fits.all_sound))) in
       let none = write_none es ls (length out) fine (omega (arith, ap length is)) in
-      let both : None ≡ Some x = sym none ∙ put.0 in
+      let both : None ≡ Some (numbered x) = sym none ∙ put.0 in
       absurd (cc)

@@ -9,6 +9,7 @@ use Rattle.graphs.specs.Links.{sound}
 use Rattle.graphs.specs.declared.link.Link.{Link}
 use Rattle.kinds.specs.Payloads.{Shape, valid, two_bytes}
 use Rattle.refusals.specs.Rows.{first_refusal}
+use Rattle.refusals.specs.Table.{numbered}
 use Rattle.refusals.specs.declared.Refusal.{Refusal}
 use Rattle.files.specs.declared.counts.Counts.{Counts}
 use Rattle.files.specs.Encoding.{head_kind, entry_kind, link_kind, framed, link_bytes, Raw, written, counts_of, Fits}
@@ -36,12 +37,12 @@ module _ (sh : Shape) (room : Counts) where
   over None = lost
   over (Some b) = book b
 
-  abbrev turn : Option Refusal → End → End
+  abbrev turn : Option (ℕ × ℕ × Refusal) → End → End
   turn None e = e
-  turn (Some x) e = refused x
+  turn (Some x) e = refused x.2
 
   -- the rows for the record at the front of what is left
-  abbrev row : Option Raw → List ℕ → Option Refusal
+  abbrev row : Option Raw → List ℕ → Option (ℕ × ℕ × Refusal)
   row s left = first_refusal (rows sh room (option_map counts_of s) (length (bytes_so_far sh s)) left)
 
   -- at most so many steps of the walk, from what was read so far
@@ -58,7 +59,7 @@ module _ (sh : Shape) (room : Counts) where
       let rest = frame_rest k p t in
       cond-true (due s bs) _ _ live ∙ ap (λ o. turn o (walk f (Some (grown s (kind_of bs) (payload_of bs))) (drop (4 + size_of bs) bs))) none ∙ (cc)
 
-  walk_refused : (f : ℕ) (s : Option Raw) (left : List ℕ) (x : Refusal) → due s left ≡ true → row s left ≡ Some x → walk (suc f) s left ≡ refused x
+  walk_refused : (f : ℕ) (s : Option Raw) (left : List ℕ) (x : Refusal) → due s left ≡ true → row s left ≡ Some (numbered x) → walk (suc f) s left ≡ refused x
   unfolding walk
   walk_refused f s left x live first =
       cond-true (due s left) _ _ live ∙ ap (λ o. turn o (walk f (Some (grown s (kind_of left) (payload_of left))) (drop (4 + size_of left) left))) first
@@ -115,7 +116,7 @@ module _ (sh : Shape) (room : Counts) where
   refused_ends : (x : Refusal) (bytes : List ℕ) → Refused sh room bytes x → Ends bytes (refused x)
   refused_ends x bytes r = by r.before r.is r.fits r.more r.first
     where
-      by : (s : Option Raw) → bytes ≡ bytes_so_far sh s ++ r.left → IfSome s (Fits sh room) → due s r.left ≡ true → row s r.left ≡ Some x → Ends bytes (refused x)
+      by : (s : Option Raw) → bytes ≡ bytes_so_far sh s ++ r.left → IfSome s (Fits sh room) → due s r.left ≡ true → row s r.left ≡ Some (numbered x) → Ends bytes (refused x)
       by None is fits more first = (0, λ m. ap (λ n. walk n None bytes) (omega arith) ∙ ap (walk (suc m) None) is ∙ walk_refused m None r.left x more first)
       by (Some b) is fits more first = ends_behind b bytes r.left (refused x) fits is (λ m. walk_refused m (Some b) r.left x more first)
 

@@ -5,6 +5,7 @@ use Rattle.graphs.specs.Links.{all_sound}
 use Rattle.graphs.specs.declared.link.Link.{Link}
 use Rattle.kinds.specs.Payloads.{Shape}
 use Rattle.refusals.specs.Rows.{Row, first_refusal}
+use Rattle.refusals.specs.Table.{numbered}
 use Rattle.refusals.specs.declared.Refusal.{Refusal}
 use Rattle.refusals.specs.declared.Refusal.TheVariants.{BookUnwritable, BytesTooShort}
 use Rattle.files.specs.declared.counts.Counts.{Counts}
@@ -42,8 +43,8 @@ module _ {V : Type 0} (sh : Shape) (encoded : V → List ℕ) where
   -- the rows that a writing is held to, for a buffer of so many bytes: a book that may be written, and room for its file
   abbrev pub write_rows : List V → List Link → ℕ → List Row
   write_rows values links room =
-      (not (writable (length values) links), BookUnwritable)
-      ∷ (nat_lt room (length (encode sh encoded values links)), BytesTooShort)
+      (not (writable (length values) links), 71, 0, BookUnwritable)
+      ∷ (nat_lt room (length (encode sh encoded values links)), 72, 0, BytesTooShort)
       ∷ []
 
   -- a book was written: its file lies at the front of the buffer, and what lies behind is as it was
@@ -56,7 +57,7 @@ module _ {V : Type 0} (sh : Shape) (encoded : V → List ℕ) where
   -- a writing, by the buffer as it was and as it is, and the answer; a refused one leaves it as it was
   abbrev pub WriteBook : List V → List Link → List ℕ → List ℕ → Result ℕ Refusal → Type 0
   WriteBook values links out out' (Ok n) = Put values links out out' n
-  WriteBook values links out out' (Err x) = (first_refusal (write_rows values links (length out)) ≡ Some x) × (out' ≡ out)
+  WriteBook values links out out' (Err x) = (first_refusal (write_rows values links (length out)) ≡ Some (numbered x)) × (out' ≡ out)
 
   -- a file that is read and written again is the same file: whatever is written of these values and links, into room for it, is these bytes
   abbrev pub SameFile : List ℕ → List V → List Link → Type 0

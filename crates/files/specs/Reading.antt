@@ -5,6 +5,7 @@ use Rattle.graphs.specs.Links.{sound}
 use Rattle.graphs.specs.declared.link.Link.{Link}
 use Rattle.kinds.specs.Payloads.{Shape, fitting, valid, word}
 use Rattle.refusals.specs.Rows.{Row, first_refusal}
+use Rattle.refusals.specs.Table.{numbered}
 use Rattle.refusals.specs.declared.Refusal.{Refusal}
 use Rattle.refusals.specs.declared.Refusal.TheVariants.{HeadingCut, PayloadCut, RecordMisplaced, OtherValueKind, LengthUnfit, NoSuchDay, LinkUnsound, TooManyEntries, TooManyLinks}
 use Rattle.files.specs.declared.counts.Counts.{Counts}
@@ -44,15 +45,15 @@ links_read (Some read) = read.links
 -- the rows for the record that lies at an offset, at the front of what is left, where `read` counts what was read before (`None`: not even a head)
 abbrev pub rows : Shape → Counts → Option Counts → ℕ → List ℕ → List Row
 rows sh room read at left =
-    (nat_lt (length left) 4, HeadingCut at)
-    ∷ (not (allowed read (kind_of left)), RecordMisplaced at)
-    ∷ (not (fit sh (kind_of left) (size_of left)), LengthUnfit at)
-    ∷ (nat_lt (length left) (4 + size_of left), PayloadCut at)
-    ∷ (kind_of left == head_kind && not (word (slice_index (payload_of left) 0) (slice_index (payload_of left) 1) == sh.number), OtherValueKind at)
-    ∷ (kind_of left == entry_kind && not (valid sh (payload_of left)), NoSuchDay at)
-    ∷ (kind_of left == link_kind && not (sound (entries_read read) (link_of (payload_of left))), LinkUnsound at)
-    ∷ (kind_of left == entry_kind && nat_le room.entries (entries_read read), TooManyEntries at)
-    ∷ (kind_of left == link_kind && nat_le room.links (links_read read), TooManyLinks at)
+    (nat_lt (length left) 4, 11, at, HeadingCut at)
+    ∷ (not (allowed read (kind_of left)), 12, at, RecordMisplaced at)
+    ∷ (not (fit sh (kind_of left) (size_of left)), 13, at, LengthUnfit at)
+    ∷ (nat_lt (length left) (4 + size_of left), 11, at, PayloadCut at)
+    ∷ (kind_of left == head_kind && not (word (slice_index (payload_of left) 0) (slice_index (payload_of left) 1) == sh.number), 12, at, OtherValueKind at)
+    ∷ (kind_of left == entry_kind && not (valid sh (payload_of left)), 14, at, NoSuchDay at)
+    ∷ (kind_of left == link_kind && not (sound (entries_read read) (link_of (payload_of left))), 15, at, LinkUnsound at)
+    ∷ (kind_of left == entry_kind && nat_le room.entries (entries_read read), 16, at, TooManyEntries at)
+    ∷ (kind_of left == link_kind && nat_le room.links (links_read read), 17, at, TooManyLinks at)
     ∷ []
 
 -- the bytes of what was read: of nothing, or of a head, entries and links
@@ -73,4 +74,4 @@ pub record Refused (sh : Shape) (room : Counts) (bytes : List ℕ) (x : Refusal)
   pub is : bytes ≡ bytes_so_far sh before ++ left
   pub fits : IfSome before (Fits sh room)
   pub more : due before left ≡ true
-  pub first : first_refusal (rows sh room (option_map counts_of before) (length (bytes_so_far sh before)) left) ≡ Some x
+  pub first : first_refusal (rows sh room (option_map counts_of before) (length (bytes_so_far sh before)) left) ≡ Some (numbered x)

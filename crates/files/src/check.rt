@@ -21,9 +21,9 @@ fn split_heading(left: &[u8]) -> Option<(usize, u16, &[u8])>
     Some((usize::from(size), kind, rest))
 }
 
-// A payload of so many bytes, if its kind allows that length, which is looked at first, and what lies behind it.
+// A payload of so many bytes, if its kind allows that length, which is looked at first, and what lies behind it. Each kind tells in its own way whether it does.
 fn split_payload(rest: &[u8], size: usize, fits: bool, at: usize) -> Result<(&[u8], &[u8]), Refusal>
-    ensures { ByRows ((not fits, Refusal.LengthUnfit at) ∷ (nat_lt (length rest.now) size, Refusal.PayloadCut at) ∷ []) result (λ x. (x.0.now ≡ take size rest.now) × (x.1.now ≡ drop size rest.now)) }
+    ensures { ByRows ((not fits, 13, at, Refusal.LengthUnfit at) ∷ (nat_lt (length rest.now) size, 11, at, Refusal.PayloadCut at) ∷ []) result (λ x. (x.0.now ≡ take size rest.now) × (x.1.now ≡ drop size rest.now)) }
 {
     if !fits {
         return Err(Refusal::LengthUnfit { at });

@@ -26,6 +26,7 @@ pub(crate) enum RecordKind {
 #[derive(Clone, Copy, PartialEq, Eq, Debug)]
 pub(crate) struct UnknownKind(pub(crate) u16);
 
+// The numbers stand here again, as std makes no case out of a number.
 impl TryFrom<u16> for RecordKind {
     type Error = UnknownKind;
 

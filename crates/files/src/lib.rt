@@ -1,4 +1,4 @@
-// Books as files: reading and writing.
+//! Books as files: reading and writing.
 #![tactic(auto)]
 
 mod check;

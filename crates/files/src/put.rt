@@ -75,7 +75,7 @@ fn put_link(link: Link, out: &mut [u8])
     put_record(RecordKind::Link, &payload, out);
 }
 
-// With the offset counted, as in `put_entries`.
+// With the offset counted, as in `put_entries`. That asks each entry for its size; all links have one.
 pub(crate) fn put_links(links: &[Link], entries: usize, out: &mut [u8])
     requires sound { all_sound entries links.now ≡ true }
     requires few { entries ≤ 128 }

@@ -10,7 +10,7 @@ use graphs::link::Link;
 use kinds::kind::{Kind, Payload};
 use refusals::Refusal;
 
-// Reads a book of one kind of value into the fronts of two buffers, and tells how many entries and links it has.
+/// Reads a book of one kind of value into the fronts of two buffers, and tells how many entries and links it has.
 pub fn read_book<K: Kind>(
     bytes: &[u8],
     entries: &mut [K],

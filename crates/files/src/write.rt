@@ -39,7 +39,7 @@ fn entries_size<K: Kind>(entries: &[K]) -> usize
         .sum()
 }
 
-// Writes a book of one kind of value to the front of a buffer, and tells how many bytes it takes.
+/// Writes a book of one kind of value to the front of a buffer, and tells how many bytes it takes.
 pub fn write_book<K: Kind>(entries: &[K], links: &[Link], out: &mut [u8]) -> Result<usize, Refusal>
     ensures written { WriteBook K.Payload.Payload.shape K.Payload.Payload.encoded entries.now links.now out.old out.new result }
     ensures again { IfOk result (λ n. SameBook K.Payload.Payload.shape K.Payload.Payload.encoded K.Payload.Payload.decoded K.Payload.Payload.agree (take n out.new) entries.now links.now) }

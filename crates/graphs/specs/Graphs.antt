@@ -3,7 +3,7 @@ use Rattle.std.specs.Prelude.{◌≡◌, ℕ, ◌<◌, ◌≤◌, Bool, true, fa
 use Rattle.graphs.specs.declared.link.Link.{Link}
 use Rattle.graphs.specs.Links.{sound}
 
--- a count of entries, a yes or no for the sameness of each two, and a list of places, each holding one link or nothing
+-- how many entries there are, which two of them hold the same value, and what each place holds: a link, or `None`
 pub record Graph : Type 0 where
   pub entries : ℕ
   pub same : ℕ → ℕ → Bool

@@ -4,7 +4,7 @@ use Rattle.std.specs.Option.{option_map}
 use Rattle.graphs.specs.Graphs.{Graph}
 use Rattle.graphs.specs.Links.{turned, unless}
 
--- both ends of every link exchanged
+-- each link leads the other way
 abbrev pub reversed : Graph → Graph
 reversed g = record { entries = g.entries; same = g.same; places = map (option_map turned) g.places }
 

@@ -1,4 +1,4 @@
--- The graph of a sheet: one to three whole months of one Gregorian year. Assumes nothing.
+-- The graph of a sheet, which shows some months of a year of the Gregorian calendar. Assumes nothing.
 use Rattle.std.specs.Prelude.{ℕ, ◌+◌, Bool, cond, ◌&&◌, List, [], ◌∷◌, map, length, Some, None, Option, ◌==◌, nat_eq, nat_le, nat_lt, slice_index_or, position}
 use Rattle.std.specs.List.{range_with_len, flat_map}
 use Rattle.std.specs.Option.{option_map}
@@ -7,7 +7,7 @@ use Rattle.kinds.specs.declared.calendar.Calendar.TheVariants.{Gregorian}
 use Rattle.graphs.specs.declared.link.Link.{Link}
 use Rattle.graphs.specs.Graphs.{Graph, valued}
 
--- a sheet that there is: a year from 1900 to 2199, a month, and one to three months from it on, up to December
+-- which sheets there are: the year lies in the range of days, the months are one, two or three, and December is the last that there can be
 abbrev pub sheet_in_range : ℕ → ℕ → ℕ → Bool
 sheet_in_range year month count = (nat_le 1900 year && nat_le year 2199) && ((nat_le 1 month && nat_le 1 count) && (nat_le count 3 && nat_le (month + count) 13))
 
@@ -62,7 +62,7 @@ link_to from letter to = record { from = from; letter = letter; to = to }
 abbrev pub later : ℕ → ℕ → ℕ → ℕ → Option Link
 later n i letter steps = cond (nat_lt (i + steps) n) (Some (link_to i letter (i + steps))) None
 
--- the three places of a day: `d` to the next day, `w` to seven days later, `m` to the same day of the next month
+-- the three places of a day, for the links `d` a day on, `w` a week on, and `m` to the day with its number in the month that follows
 abbrev pub places_of : List SheetDay → ℕ → List (Option Link)
 places_of days i =
     later (length days) i day_letter 1
@@ -70,6 +70,6 @@ places_of days i =
     ∷ option_map (link_to i month_letter) (entry_of days ((day_at days i).0 + 1, (day_at days i).1))
     ∷ []
 
--- the entries are the days in order, and hold the days of the month; each has its three places
+-- an entry for each day, which holds its number within the month; each has its three places
 abbrev pub sheet_graph : List SheetDay → Graph
 sheet_graph days = valued nat_eq (map (λ day. day.1) days) (flat_map (places_of days) (range_with_len 0 (length days)))

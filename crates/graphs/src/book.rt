@@ -6,7 +6,7 @@ use crate::link::Link;
 use crate::source::Source;
 use kinds::kind::Kind;
 
-// A book over the caller's values and links. A link that is not sound among the entries reads as nothing.
+/// A book over the caller's values and links. A link that is not sound among the entries reads as nothing.
 #[derive(Clone, Copy)]
 pub struct Book<'a, K: Kind> {
     pub values: &'a [K],

@@ -6,7 +6,7 @@ ghost use Rattle.graphs.specs.Layers.{reversed, without};
 use crate::link::Link;
 use crate::source::Source;
 
-// The source below, with both ends of every link exchanged.
+/// The source below, where each link leads the other way.
 #[derive(Clone, Copy)]
 pub struct Reversed<S: Source> {
     pub below: S,
@@ -34,7 +34,7 @@ impl<S: Source> Source for Reversed<S> {
     }
 }
 
-// The source below, where the places of one letter hold nothing.
+/// The source below, where the places of one letter hold nothing.
 #[derive(Clone, Copy)]
 pub struct WithoutLetter<S: Source> {
     pub below: S,

@@ -1,4 +1,4 @@
-// Graphs of entries and lettered links, and the sources that mean them.
+//! Graphs of entries and lettered links, and the sources that mean them.
 #![tactic(auto)]
 
 pub mod book;

@@ -16,7 +16,7 @@ use std::ops::Range;
 // A sheet has at most so many months.
 const MOST_MONTHS: u8 = 3;
 
-// One to three whole months of one year from 1900 to 2199. The entries are the days in order, and hold the days of the month.
+/// One, two or three months in a row, of a year from 1900 to 2199. Each of their days is an entry, which holds the number of the day within its month.
 #[derive(Clone, Copy)]
 pub struct Sheet {
     year: u16,
@@ -38,9 +38,9 @@ impl Model for Sheet {
 }
 
 impl Sheet {
-    // The sheet of so many months of a year, from a month on.
+    /// The sheet of so many months of a year, from a month on.
     pub fn new(year: u16, month: u8, count: u8) -> Result<Sheet, Refusal>
-        ensures { ByRows ((not (sheet_in_range year month count), SheetOutOfRange) ∷ []) result (λ s. s ≡ record { year = year; month = month; count = count }) }
+        ensures { ByRows ((not (sheet_in_range year month count), 18, 0, SheetOutOfRange) ∷ []) result (λ s. s ≡ record { year = year; month = month; count = count }) }
     {
         if (FIRST_YEAR..=LAST_YEAR).contains(&year)
             && (1..=MOST_MONTHS).contains(&count)

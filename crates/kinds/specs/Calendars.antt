@@ -5,7 +5,7 @@ use Rattle.kinds.specs.declared.calendar.Calendar.{Calendar}
 use Rattle.kinds.specs.declared.calendar.Calendar.TheVariants.{Gregorian, Julian}
 use Rattle.kinds.specs.declared.calendar.UnknownCalendar.{UnknownCalendar}
 
--- Julian leap years are those divisible by 4; Gregorian ones leave out those divisible by 100 but not by 400
+-- a year is a leap year where 4 divides it; a Gregorian one that 100 divides, only where 400 does
 abbrev pub leap : Calendar → ℕ → Bool
 leap Gregorian y = y % 4 == 0 && (not (y % 100 == 0) || y % 400 == 0)
 leap Julian y = y % 4 == 0

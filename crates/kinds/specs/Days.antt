@@ -23,7 +23,7 @@ date_of d = within (month_length (leap d.calendar (year_of d)) (month_of d)) d.d
 abbrev pub day_number : Day → ℕ
 day_number d = new_year d.calendar (year_of d) + days_before (leap d.calendar (year_of d)) (month_of d) + (date_of d - 1)
 
--- two days are the same when their day numbers agree
+-- whether two dates tell one day, by its number
 abbrev pub same_day : Day → Day → Bool
 same_day d e = day_number d == day_number e
 

@@ -1,4 +1,4 @@
--- Names: 1 to 128 bytes of any content. Assumes nothing.
+-- Names, which are texts of at most 128 bytes, one at least. Assumes nothing.
 use Rattle.std.specs.Prelude.{◌≡◌, ℕ, ◌-◌, Bool, true, List, ◌++◌, length, take, replicate}
 use Rattle.std.specs.Str.{bytes_eq}
 use Rattle.kinds.specs.declared.name.Name.{Name}
@@ -9,7 +9,7 @@ use Rattle.kinds.specs.Ranges.{within}
 abbrev pub text : Name → List ℕ
 text n = take (within 128 n.len) n.bytes
 
--- two names are the same when their lengths and all their bytes agree
+-- whether two names are one text, byte for byte
 abbrev pub same_name : Name → Name → Bool
 same_name m n = bytes_eq (text m) (text n)
 

@@ -5,23 +5,26 @@ ghost use Rattle.kinds.specs.Calendars.{leap, month_length, days_before, calenda
 use std::error::Error;
 use std::fmt;
 
+/// The first year that a day may have.
 pub const FIRST_YEAR: u16 = 1900;
 
+/// The last one.
 pub const LAST_YEAR: u16 = 2199;
 
 pub(crate) const YEARS: u16 = LAST_YEAR - FIRST_YEAR + 1;
 
-// A file tells the calendar by its number.
+/// A file tells the calendar by its number.
 #[derive(Clone, Copy, PartialEq, Eq, Debug)]
 pub enum Calendar {
     Gregorian = 0,
     Julian = 1,
 }
 
-// A byte that is no calendar's number.
+/// A byte that is no calendar's number.
 #[derive(Clone, Copy, PartialEq, Eq, Debug)]
 pub struct UnknownCalendar(pub u8);
 
+// The numbers stand here again, as std makes no case out of a number.
 impl TryFrom<u8> for Calendar {
     type Error = UnknownCalendar;
 
@@ -47,6 +50,7 @@ impl fmt::Display for UnknownCalendar {
 impl Error for UnknownCalendar {}
 
 impl Calendar {
+    /// Whether a year is a leap year.
     pub fn is_leap(self, year: u16) -> bool
         ensures { result ≡ leap self year }
     {
@@ -56,7 +60,7 @@ impl Calendar {
         }
     }
 
-    // How many days a month has: 0 where the number is no month's.
+    /// How many days a month has: 0 where the number is no month's.
     pub fn month_length(self, year: u16, month: u8) -> u8
         ensures { result ≡ month_length (leap self year) month }
     {

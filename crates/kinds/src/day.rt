@@ -12,7 +12,7 @@ use crate::payload::{copy_front, kept_within};
 // The bytes of a payload.
 const PAYLOAD_SIZE: usize = 5;
 
-// A day of a month of a year. Fields that are no day's stand for some day all the same.
+/// A day of a month of a year. Fields that are no day's stand for some day all the same.
 #[derive(Clone, Copy)]
 pub struct Day {
     pub calendar: Calendar,
@@ -22,7 +22,7 @@ pub struct Day {
 }
 
 impl Day {
-    // Whether the fields, as they are, are those of a day from 1900 to 2199.
+    /// Whether the fields, as they are, are those of a day from 1900 to 2199.
     pub fn exists(&self) -> bool
         ensures { result ≡ exists self.now.calendar self.now.year self.now.month self.now.date }
     {
@@ -51,7 +51,7 @@ impl Day {
         kept_within(u16::from(length), u16::from(self.date)) as u8
     }
 
-    // The days up to this one, counted from 1 January 1900 of the Gregorian calendar, which is 1.
+    /// The days up to this one, counted from 1 January 1900 of the Gregorian calendar, which is 1.
     pub fn number(&self) -> u32
         ensures { result ≡ day_number self.now }
     {
@@ -88,7 +88,7 @@ impl Default for Day {
     }
 }
 
-// Days are the same when their day numbers are: one day has a date in each calendar.
+// By the day number, as one day has a date in each calendar.
 impl PartialEq for Day {
     ghost eq = { same_day };
 
@@ -103,7 +103,7 @@ impl Eq for Day {
     ghost laws = { Prim.search (comparing, rules) };
 }
 
-// The payload of a day: the calendar, the year in two bytes, the month and the day of the month.
+/// The payload of a day: the calendar, the year in two bytes, the month and the day of the month.
 pub struct DayPayload;
 
 impl Payload<Day> for DayPayload {

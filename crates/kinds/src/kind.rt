@@ -2,7 +2,7 @@
 ghost use Rattle.std.specs.Prelude.{◌≡◌, ℕ, ◌<◌, Bool, true, List, length, IfSome, if◌then◌else◌, Some, None};
 ghost use Rattle.kinds.specs.Payloads.{Shape, fitting, valid, overlaid};
 
-// How the values of a kind stand in a file.
+/// How the values of a kind stand in a file.
 pub trait Payload<V> {
     // The kind's number, the lengths that a payload may have, and which payloads of such a length stand for a value.
     ghost shape: { Shape };
@@ -19,27 +19,27 @@ pub trait Payload<V> {
     // Values with one payload agree.
     ghost known: { (x y : V) → encoded x ≡ encoded y → agree x y };
 
-    // Whether a payload may have this length.
+    /// Whether a payload may have this length.
     fn fits(length: usize) -> bool
         ensures { result ≡ fitting shape length };
 
-    // The value that a payload stands for, if it is valid.
+    /// The value that a payload stands for, if it is valid.
     fn decode(payload: &[u8]) -> Option<V>
         ensures value { result ≡ (if valid shape payload.now then Some (decoded payload.now) else None) }
         ensures back { IfSome result (λ x. encoded x ≡ payload.now) };
 
-    // How many bytes the payload of a value has, which a record tells in two bytes. Whatever the fields hold, the payload is a valid one.
+    /// How many bytes the payload of a value has, which a record tells in two bytes. Whatever the fields hold, the payload is a valid one.
     fn size(value: &V) -> usize
         ensures small { result < 65536 }
         ensures is { result ≡ length (encoded value.now) }
         ensures valid { valid shape (encoded value.now) ≡ true };
 
-    // Writes the payload of a value to the front, as far as there is room.
+    /// Writes the payload of a value to the front, as far as there is room.
     fn write(value: &V, out: &mut [u8])
         ensures { out.new ≡ overlaid (encoded value.now) out.old };
 }
 
-// What the entries of a book hold, and when two values are the same: where `==` says so. Whatever the fields of a value are, it stands for a value of the kind: there is no invariant.
+/// What the entries of a book hold, and when two values are the same: where `==` says so. Whatever the fields of a value are, it stands for a value of the kind: there is no invariant.
 pub trait Kind: Copy + Eq {
     // The number by which the head of a file names the kind.
     ghost NUMBER: { ℕ };

@@ -1,4 +1,4 @@
-// Kinds of value: what the entries of a book hold, when two of them are the same, and how they stand in a file.
+//! Kinds of value: what the entries of a book hold, when two of them are the same, and how they stand in a file.
 #![tactic(auto)]
 
 pub mod calendar;

@@ -1,4 +1,4 @@
-// Names, kind 1: 1 to 128 bytes of any content.
+// Names, kind 1: texts of at most 128 bytes, one at least.
 ghost use Rattle.std.specs.Prelude.{◌≡◌, ℕ, ◌≤◌, [], ◌∷◌, length};
 ghost use Rattle.std.proofs.Common.{rules, refl};
 ghost use Rattle.std.specs.Cmp.Rules.{comparing};
@@ -10,7 +10,7 @@ use crate::payload::copy_front;
 
 const MOST_BYTES: usize = 128;
 
-// A name of 1 to 128 bytes: a `len` out of range stands for some length in it, and what is stored past the end has no influence.
+/// A name of 1 to 128 bytes: a `len` out of range stands for some length in it, and what is stored past the end has no influence.
 #[derive(Clone, Copy)]
 pub struct Name {
     pub len: u8,
@@ -18,7 +18,7 @@ pub struct Name {
 }
 
 impl Name {
-    // The bytes of the name.
+    /// The bytes of the name.
     pub fn text(&self) -> &[u8]
         ensures is { result.now ≡ text self.now }
         ensures size { length result.now ≡ within 128 self.now.len }
@@ -71,7 +71,7 @@ fn name_of(payload: &[u8]) -> Name
     }
 }
 
-// The payload of a name: its bytes.
+/// The payload of a name: its bytes.
 pub struct NamePayload;
 
 impl Payload<Name> for NamePayload {

@@ -6,6 +6,16 @@ use Rattle.std.proofs.lemmas.Bool.Decides.{nat_tests}
 use Rattle.languages.specs.Algebra.{sat_add, least_below}
 use Rattle.languages.specs.Cells.{Cell, long, none}
 
+-- a set of numbers has one cell
+no_more : {S : ℕ → Type 0} {c d : ℕ} → Cell S c → Cell S d → c ≤ d
+no_more {c = c} {d = d} p q = elim (dec_lt d none) [
+  | yes few ↦ (let x = q.some few in omega (arith, p.least x.0 x.1, x.2))
+  | no all ↦ omega (arith, p.small)
+]
+
+pub one_cell : {S : ℕ → Type 0} {c d : ℕ} → Cell S c → Cell S d → c ≡ d
+one_cell p q = omega (arith, no_more p q, no_more q p)
+
 pub sat_add-le : (a b : ℕ) → sat_add a b ≤ none
 sat_add-le a b = grind (arith, nat_tests)
 

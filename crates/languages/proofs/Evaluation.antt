@@ -11,7 +11,9 @@ use Rattle.graphs.specs.declared.link.Link.{Link}
 use Rattle.languages.specs.Algebra.{sat_add, least_below, closed, Cells}
 use Rattle.languages.specs.Cells.{Lengths, none}
 use Rattle.languages.specs.Paths.{Linked}
-use Rattle.languages.proofs.Walks.{linked_within, epsilon_cells, letter_cell, either_cells, join_cell, plus_cells, star_cells, same_cells, differ_cells}
+use Rattle.languages.specs.Languages.{In}
+use Rattle.languages.proofs.Forms.{by_steps, Empty, epsilon_cells, letter_cell, either_cells, join_cell, plus_cells, star_cells, same_cells, differ_cells}
+use Rattle.languages.proofs.Walks.{linked_within}
 
 -- whether a place holds the link from u to v with the letter a
 abbrev is_link : ℕ → ℕ → ℕ → Option Link → Bool
@@ -52,11 +54,11 @@ module _ (u a v : ℕ) where
 
 -- what is computed are the cells of the expression
 pub cells_are : (g : Graph) (e : Expr) → Cells g.entries (Lengths g e) (cells_of g e)
-cells_are g epsilon = epsilon_cells g
-cells_are g (letter a) = λ u v p q. letter_cell g a u v _ p q (linked u a v g (has_link g u a v) refl)
-cells_are g (either e f) = either_cells g e f (cells_of g e) (cells_of g f) (cells_are g e) (cells_are g f)
-cells_are g (join e f) = λ u v p q. join_cell g e f u v (cells_of g e u) (λ m. cells_of g f m v) (λ m h. cells_are g e u m p h) (λ m h. cells_are g f m v h q)
-cells_are g (plus e) = plus_cells g e (cells_of g e) (cells_are g e)
-cells_are g (star e) = star_cells g e (λ u v. min (cond (eqb u v) 0 none) (cells_of g e u v)) (either_cells g epsilon e (λ u v. cond (eqb u v) 0 none) (cells_of g e) (epsilon_cells g) (cells_are g e))
-cells_are g (same e) = same_cells g e (cells_of g e) (cells_are g e)
-cells_are g (differ e) = differ_cells g e (cells_of g e) (cells_are g e)
+cells_are g epsilon = epsilon_cells g by_steps
+cells_are g (letter a) = λ u v p q. letter_cell g by_steps a u v 1 _ p q (omega arith) refl (linked u a v g (has_link g u a v) refl)
+cells_are g (either e f) = either_cells g by_steps (In g e) (In g f) (cells_of g e) (cells_of g f) (cells_are g e) (cells_are g f)
+cells_are g (join e f) = λ u v p q. join_cell g by_steps (In g e) (In g f) u v (cells_of g e u) (λ m. cells_of g f m v) (λ m h. cells_are g e u m p h) (λ m h. cells_are g f m v h q)
+cells_are g (plus e) = plus_cells g by_steps (In g e) (cells_of g e) (cells_are g e)
+cells_are g (star e) = star_cells g by_steps (In g e) (λ u v. min (cond (eqb u v) 0 none) (cells_of g e u v)) (either_cells g by_steps Empty (In g e) (λ u v. cond (eqb u v) 0 none) (cells_of g e) (epsilon_cells g by_steps) (cells_are g e))
+cells_are g (same e) = same_cells g by_steps g.same (In g e) (cells_of g e) (cells_are g e)
+cells_are g (differ e) = differ_cells g by_steps g.same (In g e) (cells_of g e) (cells_are g e)

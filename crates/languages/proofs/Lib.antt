@@ -1,4 +1,5 @@
 pub mod CellLaws
 pub mod Vias
 pub mod Walks
+pub mod Forms
 pub mod Evaluation

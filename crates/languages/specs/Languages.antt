@@ -16,17 +16,17 @@ abbrev pub In : Graph → Expr → ℕ → List Step → Type 0
 In g epsilon u s = s ≡ []
 -- one step along a link of the letter
 In g (letter a) u s = (v : ℕ) × (s ≡ record { letter = a; entry = v } ∷ [])
--- a path of e, or one of f
+-- e has it, or f
 In g (either e f) u s = In g e u s ⊎ In g f u s
--- a path of e, then one of f that starts at the entry where the first ends
+-- cut once: e has what stands before the cut, and f what stands behind, from the entry at the cut on
 In g (join e f) u s = (s₁ : List Step) × (s₂ : List Step) × (s ≡ s₁ ++ s₂) × In g e u s₁ × In g f (end u s₁) s₂
--- one or more paths of e joined in that way
+-- cut any number of times, or not at all: e has each piece
 In g (plus e) u s = Pieces (In g e) u s
--- the same, or no step
+-- no step, or cut as for `plus`
 In g (star e) u s = (s ≡ []) ⊎ Pieces (In g e) u s
--- a path of e whose first and last values are the same
+-- e has it, and its two ends hold the same value
 In g (same e) u s = In g e u s × (g.same u (end u s) ≡ true)
--- a path of e whose first and last values are not the same
+-- e has it, and its two ends do not hold the same value
 In g (differ e) u s = In g e u s × (g.same u (end u s) ≡ false)
 
 -- a data path in the language joins the pair u and v

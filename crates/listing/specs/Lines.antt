@@ -2,7 +2,7 @@
 use Rattle.std.specs.Prelude.{◌≡◌, ℕ, List, [], ◌∷◌, ◌++◌, length, take, drop, flat_map, Some, None, Ok, Err, codes, decimal, Result, nat_lt}
 use Rattle.languages.specs.declared.step.Step.{Step}
 use Rattle.refusals.specs.Rows.{Row, first_refusal}
-use Rattle.refusals.specs.Table.{refusal_text}
+use Rattle.refusals.specs.Table.{numbered, refusal_text}
 use Rattle.refusals.specs.declared.Refusal.{Refusal}
 use Rattle.refusals.specs.declared.Refusal.TheVariants.{TextTooShort}
 
@@ -39,7 +39,7 @@ most_step = 21
 
 -- the row that the making of a line is held to, for a buffer of so many bytes
 abbrev pub line_rows : List ℕ → ℕ → List Row
-line_rows text room = (nat_lt room (length text), TextTooShort) ∷ []
+line_rows text room = (nat_lt room (length text), 47, 0, TextTooShort) ∷ []
 
 -- a line was made: it lies at the front of the buffer, and what lies behind is as it was
 pub record Laid (text out out' : List ℕ) (n : ℕ) : Type 0 where
@@ -51,4 +51,4 @@ pub record Laid (text out out' : List ℕ) (n : ℕ) : Type 0 where
 -- the making of a line, by the buffer as it was and as it is, and the answer; a refused one leaves it as it was
 abbrev pub Lined : List ℕ → List ℕ → List ℕ → Result ℕ Refusal → Type 0
 Lined text out out' (Ok n) = Laid text out out' n
-Lined text out out' (Err x) = (first_refusal (line_rows text (length out)) ≡ Some x) × (out' ≡ out)
+Lined text out out' (Err x) = (first_refusal (line_rows text (length out)) ≡ Some (numbered x)) × (out' ≡ out)

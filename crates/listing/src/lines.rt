@@ -7,7 +7,7 @@ use itoa::Buffer;
 use languages::step::Step;
 use refusals::Refusal;
 
-// The line of a refusal: its number and its place, as `refused 13 at 6`.
+/// The line of a refusal: its number and its place, as `refused 13 at 6`.
 pub fn refusal_line(refusal: Refusal, out: &mut [u8]) -> Result<usize, Refusal>
     ensures lined { Lined (refusal_line refusal) out.old out.new result }
     ensures short { length (refusal_line refusal) ≤ most_line }
@@ -24,7 +24,7 @@ pub fn refusal_line(refusal: Refusal, out: &mut [u8]) -> Result<usize, Refusal>
     )
 }
 
-// The first line of an answer: how many entries the book has, and how many pairs are joined, as `entries 4 pairs 3`.
+/// The first line of an answer: how many entries the book has, and how many pairs are joined, as `entries 4 pairs 3`.
 pub fn first_line(entries: usize, pairs: usize, out: &mut [u8]) -> Result<usize, Refusal>
     ensures lined { Lined (first_line entries pairs) out.old out.new result }
     ensures short { length (first_line entries pairs) ≤ most_line }
@@ -41,7 +41,7 @@ pub fn first_line(entries: usize, pairs: usize, out: &mut [u8]) -> Result<usize,
     )
 }
 
-// The line of a joined pair: its entries, how many steps a path has, and the path, as `0 2 2 0c1c2`.
+/// The line of a joined pair: its entries, how many steps a path has, and the path, as `0 2 2 0c1c2`.
 pub fn pair_line(
     u: usize,
     v: usize,
@@ -67,7 +67,7 @@ pub fn pair_line(
     )
 }
 
-// The line of a pair whose paths are all long, as `0 2 long`.
+/// The line of a pair whose paths are all long, as `0 2 long`.
 pub fn long_line(u: usize, v: usize, out: &mut [u8]) -> Result<usize, Refusal>
     ensures lined { Lined (long_line u v) out.old out.new result }
     ensures short { length (long_line u v) ≤ most_line }

@@ -1,5 +1,7 @@
 pub mod Sums
 pub mod Firsts
 pub mod Tracing
-pub mod Meaning
 pub mod Listing
+pub mod Among
+pub mod Meaning
+pub mod Told

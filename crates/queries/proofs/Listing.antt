@@ -1,18 +1,16 @@
 -- All joined pairs in their order: cells that tell which pairs are joined give the list. Assumes nothing.
-use Rattle.std.proofs.Common.{◌≡◌, ℕ, zero, suc, ◌+◌, ◌<◌, ◌≤◌, Bool, true, false, cond, leb, ◌⊎◌, inl, inr, List, [], ◌∷◌, ◌++◌, length, length-append, append-nil, append_assoc, refl, sym, subst, arith}
+use Rattle.std.proofs.Common.{◌≡◌, ℕ, zero, suc, ◌+◌, ◌<◌, ◌≤◌, Bool, true, false, cond, leb, ◌⊎◌, inl, inr, List, [], ◌∷◌, ◌++◌, length, Option, Some, None, length-append, append-nil, append_assoc, refl, sym, subst, arith}
 use Rattle.std.proofs.lemmas.Bool.{leb-true, leb-false}
 use Rattle.std.proofs.lemmas.List.Elements.{All-push, Contains-append_left, Contains-append_right}
 use Rattle.std.proofs.lemmas.List.Quantifiers.{all_pairs_push}
 use Rattle.std.specs.List.{All, AllPairs, Contains}
 use Rattle.expressions.specs.Exprs.{Expr}
 use Rattle.graphs.specs.Graphs.{Graph}
-use Rattle.languages.proofs.Walks.{path_start}
+use Rattle.languages.proofs.Walks.{joined_within}
 use Rattle.languages.specs.Algebra.{Cells}
 use Rattle.languages.specs.Cells.{Lengths, long}
-use Rattle.languages.specs.Paths.{Path}
-use Rattle.languages.specs.declared.step.Step.{Step}
-use Rattle.queries.specs.Meanings.{IsJoined, JoinedPairs}
-use Rattle.queries.specs.Pairs.{Before, reaches, sum_to, tallied}
+use Rattle.queries.specs.Meanings.{IsJoined, JoinedPairs, Counted}
+use Rattle.queries.specs.Pairs.{Before, First, Reaches, reaches, sum_to, tallied}
 
 -- the pairs before (x, y) of which P holds, in their order
 pub record Listed (P : ℕ → ℕ → Type 0) (x y : ℕ) (pairs : List (ℕ × ℕ)) : Type 0 where
@@ -111,14 +109,6 @@ module _ (P : ℕ → ℕ → Type 0) (n : ℕ) (d : ℕ → ℕ → ℕ) (withi
   rows_listed zero h = listed_none P
   rows_listed (suc x) h = listed_row P x n _ (λ u v p. (within u v p).1) (row_listed x n (omega arith) (omega arith) (reached_pairs d n x) (rows_listed x (omega arith)))
 
--- a path stays among the entries
-path_stop : (g : Graph) (u v : ℕ) (s : List Step) → Path g u s v → v < g.entries
-path_stop g u v [] p = rw (← p.1) p.0
-path_stop g u v (x ∷ s) p = path_stop g x.entry v s p.2
-
-pub joined_within : (g : Graph) (e : Expr) (u v : ℕ) → IsJoined g e u v → (u < g.entries) × (v < g.entries)
-joined_within g e u v j = (path_start g u v j.0 j.1.0, path_stop g u v j.0 j.1.0)
-
 -- cells of an expression tell which pairs are joined
 module _ (g : Graph) (e : Expr) (d : ℕ → ℕ → ℕ) (cells : Cells g.entries (Lengths g e) d) where
   pub reached_joined : (u v : ℕ) → u < g.entries → v < g.entries → d u v ≤ long → IsJoined g e u v
@@ -134,3 +124,18 @@ module _ (g : Graph) (e : Expr) (d : ℕ → ℕ → ℕ) (cells : Cells g.entri
   pairs_listed =
       let l = rows_listed (IsJoined g e) g.entries d (joined_within g e) reached_joined joined_reached g.entries (omega arith) in
       record { joined = l.holds; all = λ u v j. l.all u v j (inl (joined_within g e u v j).0); ordered = l.ordered }
+
+  -- their number is that of the cells that are reached
+  pub pairs_counted : Counted g e (tallied d g.entries g.entries)
+  pairs_counted = (reached_pairs d g.entries g.entries, pairs_listed, reached_counted d g.entries g.entries)
+
+  -- and the first pair that is reached is the first that is joined
+  pub first_joined : (Reach : ℕ → ℕ → Type 0) (a : Option (ℕ × ℕ)) → First Reach g.entries (Reaches d) a → First Reach g.entries (IsJoined g e) a
+  first_joined Reach None f = λ u v h k r j. f u v h k r (joined_reached u v j)
+  first_joined Reach (Some pair) f = record {
+    row = f.row;
+    column = f.column;
+    reached = f.reached;
+    holds = reached_joined _ _ f.row f.column f.holds;
+    none_before = λ a b h k r o j. f.none_before a b h k r o (joined_reached a b j);
+  }

@@ -1,5 +1,5 @@
 pub mod Conditions
+pub mod Taking
 pub mod Pairs
 pub mod Calls
 pub mod Meanings
-pub mod Whole

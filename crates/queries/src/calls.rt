@@ -6,10 +6,9 @@ ghost use Rattle.queries.specs.Meanings.{Meant};
 ghost use Rattle.queries.specs.declared.condition.Condition.TheVariants.{Blank};
 
 use crate::Query;
-use crate::condition::Condition;
+use crate::condition::{Condition, Evaluation};
 use crate::found::Found;
 use crate::scan::{first_from, tally};
-use crate::whole::whole_block;
 use expressions::parse::parse;
 use graphs::source::Source;
 use languages::step::Step;
@@ -18,7 +17,7 @@ use tables::evaluate::evaluate;
 use traces::trace::trace;
 
 impl Query {
-    // A blank query.
+    /// A blank query.
     pub fn new() -> Query
         ensures { result ≡ Blank }
     {
@@ -27,51 +26,54 @@ impl Query {
         }
     }
 
-    // Reads a wording. What was evaluated is dropped.
+    /// Reads a wording. What was evaluated is dropped.
     pub fn parse(&mut self, text: &[u8]) -> Result<(), Refusal>
         ensures { Parses self.old text.now self.new result }
     {
-        match (&mut self.condition, parse(text)?) {
-            (condition, parts) => *condition = Condition::Parsed(parts),
+        match (&mut self.condition, parse(text)) {
+            (condition, Ok(parts)) => {
+                *condition = Condition::Parsed(parts);
+                Ok(())
+            }
+            (_, Err(refusal)) => Err(refusal),
         }
-        Ok(())
     }
 
-    // Evaluates the expression over a source, into a table.
+    /// Evaluates the expression over a source, into a table.
     pub fn evaluate<S: Source>(&mut self, source: &S, table: &mut [u32]) -> Result<(), Refusal>
         ensures evaluated { Evaluates self.old (S.Source.graph source.now) table.old self.new table.new result }
         ensures meant { OnOk result (Meant (S.Source.graph source.now) (expr_in self.new) self.new table.new) }
     {
-        match (&self.condition, source) {
+        match (&mut self.condition, source) {
             (Condition::Blank, _) => Err(Refusal::QueryBlank),
-            (Condition::Parsed(parts) | Condition::Evaluated { parts, .. }, source) => {
-                let entries = evaluate(source, parts, table)?;
-                self.condition = Condition::Evaluated {
-                    parts: *parts,
-                    entries,
-                };
+            (
+                condition @ &mut (Condition::Parsed(parts)
+                | Condition::Evaluated(Evaluation { parts, .. })),
+                source,
+            ) => {
+                let entries = evaluate(source, &parts, table)?;
+                *condition = Condition::Evaluated(Evaluation { parts, entries });
                 Ok(())
             }
         }
     }
 
-    // What joins a pair of entries.
+    /// What joins a pair of entries.
     pub fn lookup(&self, table: &[u32], u: usize, v: usize) -> Result<Found, Refusal>
         ensures { Looks self.now table.now u v result }
     {
         match (&self.condition, u, v) {
-            (&Condition::Evaluated { ref parts, entries }, u, v) => {
-                if u >= entries || v >= entries {
+            (Condition::Evaluated(evaluation), u, v) => {
+                if u >= evaluation.entries || v >= evaluation.entries {
                     return Err(Refusal::NoSuchEntry);
                 }
-                let block = whole_block(parts.as_slice(), entries, table)?;
-                Ok(Found::from(block[u * entries + v]))
+                Ok(Found::from(evaluation.cells(table)?.of_whole(u, v)))
             }
             _ => Err(Refusal::NotEvaluated),
         }
     }
 
-    // The first joined pair, after a given one if any; `None` behind the last.
+    /// The first joined pair, after a given one if any; `None` behind the last.
     pub fn next(
         &self,
         table: &[u32],
@@ -80,35 +82,35 @@ impl Query {
         ensures { Nexts self.now table.now after result }
     {
         match (&self.condition, after) {
-            (&Condition::Evaluated { ref parts, entries }, Some((u, v))) => {
-                if u >= entries || v >= entries {
+            (Condition::Evaluated(evaluation), Some((u, v))) => {
+                if u >= evaluation.entries || v >= evaluation.entries {
                     return Err(Refusal::NoSuchEntry);
                 }
-                let block = whole_block(parts.as_slice(), entries, table)?;
-                Ok(first_from(block, entries, u, v + 1))
+                let block = evaluation.cells(table)?.whole();
+                Ok(first_from(block, evaluation.entries, u, v + 1))
             }
-            (&Condition::Evaluated { ref parts, entries }, None) => {
-                let block = whole_block(parts.as_slice(), entries, table)?;
-                Ok(first_from(block, entries, 0, 0))
+            (Condition::Evaluated(evaluation), None) => {
+                let block = evaluation.cells(table)?.whole();
+                Ok(first_from(block, evaluation.entries, 0, 0))
             }
             _ => Err(Refusal::NotEvaluated),
         }
     }
 
-    // How many pairs are joined.
+    /// How many pairs are joined.
     pub fn tally(&self, table: &[u32]) -> Result<usize, Refusal>
         ensures { Tallies self.now table.now result }
     {
         match (&self.condition, table) {
-            (&Condition::Evaluated { ref parts, entries }, table) => {
-                let block = whole_block(parts.as_slice(), entries, table)?;
+            (Condition::Evaluated(evaluation), table) => {
+                let block = evaluation.cells(table)?.whole();
                 Ok(tally(block))
             }
             _ => Err(Refusal::NotEvaluated),
         }
     }
 
-    // The steps of a shortest path that joins a pair of entries, at the front of the buffer; and how many they are.
+    /// The steps of a shortest path that joins a pair of entries, at the front of the buffer; and how many they are.
     pub fn trace(
         &self,
         table: &[u32],
@@ -119,8 +121,8 @@ impl Query {
         ensures { Traces self.now table.now u v steps.old steps.new result }
     {
         match (&self.condition, u, v) {
-            (&Condition::Evaluated { ref parts, entries }, u, v) => {
-                trace(parts, table, entries, u, v, steps)
+            (Condition::Evaluated(evaluation), u, v) => {
+                trace(&evaluation.parts, table, evaluation.entries, u, v, steps)
             }
             _ => Err(Refusal::NotEvaluated),
         }

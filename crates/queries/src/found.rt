@@ -4,7 +4,7 @@ ghost use Rattle.queries.specs.Calls.{found_in};
 
 use tables::cell::LONG;
 
-// The fewest steps that join a pair; or that all paths have 1,000 steps or more; or that there is no path: three cases, of which two `Option`s would hide which is which.
+/// The fewest steps that join a pair; or that all paths have 1,000 steps or more; or that there is no path: three cases, of which two `Option`s would hide which is which.
 #[derive(Clone, Copy, PartialEq, Eq, Debug)]
 pub enum Found {
     Steps(u32),

@@ -1,4 +1,4 @@
-// Queries: an expression that is parsed, evaluated over a source, and asked about pairs of entries.
+//! Queries: an expression that is parsed, evaluated over a source, and asked about pairs of entries.
 #![tactic(auto)]
 
 ghost use Rattle.std.specs.Prelude.{ℕ, ◌≤◌};
@@ -9,12 +9,11 @@ pub mod calls;
 pub mod condition;
 pub mod found;
 mod scan;
-mod whole;
 
 use condition::Condition;
 use std::marker::Model;
 
-// A query. Only its calls change its condition.
+/// A query. Only its calls change its condition.
 #[derive(Drop)]
 pub struct Query {
     condition: Condition,

@@ -66,3 +66,7 @@ place BytesTooShort = 0
 -- what a refusal prints: refused 13 at 6
 abbrev pub refusal_text : Refusal → List ℕ
 refusal_text x = codes "refused " ++ decimal (number x) ++ codes " at " ++ decimal (place x)
+
+-- a refusal with the number and the place that it has
+abbrev pub numbered : Refusal → ℕ × ℕ × Refusal
+numbered x = (number x, place x, x)

@@ -1,4 +1,4 @@
-// Why a call is refused: one enum for the whole library, with the number and the place that each case has.
+//! Why a call is refused: one enum for the whole library, with the number and the place that each case has.
 #![tactic(auto)]
 
 ghost use Rattle.std.specs.Prelude.{◌≡◌, ℕ, Some};
@@ -7,7 +7,7 @@ ghost use Rattle.refusals.specs.Table.{number, place, refusal_text};
 use std::error::Error;
 use std::fmt;
 
-// Each case is named for what is wrong; `at` is the offset in the file of the record that is refused, or in a wording of the byte that spoils it.
+/// Each case is named for what is wrong; `at` is the offset in the file of the record that is refused, or in a wording of the byte that spoils it.
 #[derive(Clone, Copy, PartialEq, Eq, Debug)]
 pub enum Refusal {
     InputTooLong,
@@ -40,7 +40,7 @@ pub enum Refusal {
 }
 
 impl Refusal {
-    // The number by which users know the refusal.
+    /// The number by which users know the refusal.
     pub fn number(self) -> u8
         ensures { result ≡ number self }
     {
@@ -73,7 +73,7 @@ impl Refusal {
         }
     }
 
-    // Where in its input the refusal points; 0 where there is nothing to point at.
+    /// Where in its input the refusal points; 0 where there is nothing to point at.
     pub fn place(self) -> usize
         ensures { result ≡ place self }
     {

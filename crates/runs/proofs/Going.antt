@@ -20,7 +20,7 @@ pub record Going {S : Type 0} (graph : S → Graph) (asked : List (Request S)) (
   pub history : History
   pub traced : List Step
   pub run : Run table₀ history q table
-  pub transcript : Transcript graph (length steps₀) (take i asked) (take i answers) history traced
+  pub transcript : Transcript graph (length table₀) (length steps₀) (take i asked) (take i answers) history traced
   pub count : written ≡ length traced
   pub fits : written ≤ length steps₀
   pub steps_are : steps ≡ traced ++ drop (length traced) steps₀
@@ -50,6 +50,10 @@ module _ {S : Type 0} (graph : S → Graph) (asked : List (Request S)) (table₀
   kept_rest : drop written steps ≡ drop (length k.traced) steps₀
   kept_rest = ap (drop written) k.steps_are ∙ drop_at k.traced _ written (sym k.count)
 
+  -- the table is as long as at first
+  cells : length table ≡ length table₀
+  cells = (run_followed table₀ k.run).same
+
   now_written : take written steps ++ rest ≡ (k.traced ++ m.traced) ++ drop (length (k.traced ++ m.traced)) steps₀
   now_written =
       let n : length k.traced + length m.traced ≡ length (k.traced ++ m.traced) = sym (length-append k.traced m.traced) in
@@ -61,7 +65,7 @@ module _ {S : Type 0} (graph : S → Graph) (asked : List (Request S)) (table₀
     history = m.event ∷ k.history;
     traced = k.traced ++ m.traced;
     run = runs.call k.run m.does;
-    transcript = rw (take_more asked i request h, ← is, take_more_set answers i answer j) (requests.call k.transcript (rw (left same) at m.tells));
+    transcript = rw (take_more asked i request h, ← is, take_more_set answers i answer j) (requests.call k.transcript (rw (left same, cells) at m.tells));
     count = omega (arith, length-append k.traced m.traced, k.count, m.count);
     fits = omega (arith, m.count, ap length m.written, length-append m.traced (drop (length m.traced) (drop written steps)), length-drop (length m.traced) (drop written steps), length-drop written steps, k.fits);
     steps_are = now_written;

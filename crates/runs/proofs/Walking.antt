@@ -1,19 +1,19 @@
 -- A walk of next calls is answered the joined pairs in their order. Assumes nothing.
-use Rattle.std.proofs.Common.{◌≡◌, ℕ, suc, ◌+◌, ◌<◌, ◌≤◌, Bool, true, false, inl, inr, List, [], ◌∷◌, ◌++◌, length, get_or, take, reverse, slice_get, Option, Some, None, Result, Ok, Err, refl, ap, sym, ◌∙◌, arith}
+use Rattle.std.proofs.Common.{◌≡◌, ℕ, suc, ◌+◌, ◌<◌, ◌≤◌, Bool, true, false, inl, inr, List, [], ◌∷◌, ◌++◌, length, get_or, take, reverse, slice_get, Option, Some, None, Ok, Err, refl, ap, sym, ◌∙◌, arith}
 use Rattle.std.proofs.lemmas.Bool.{cases_lt, cases_order}
 use Rattle.std.proofs.lemmas.List.{get_or_push, get_or-take, length-reverse, length-take, reverse-append, take_more}
 use Rattle.std.proofs.lemmas.Option.{get_or_from_slice_get, slice_get-get_or, slice_get_past, slice_get_within}
 use Rattle.std.specs.Bool.{MatchBool}
 use Rattle.expressions.specs.Exprs.{Expr}
 use Rattle.graphs.specs.Graphs.{Graph}
+use Rattle.languages.proofs.Walks.{joined_within}
 use Rattle.queries.specs.Calls.{outside}
 use Rattle.queries.specs.Pairs.{After, Before, First}
-use Rattle.refusals.specs.declared.Refusal.{Refusal}
+use Rattle.refusals.specs.Rows.{IsRefused}
 use Rattle.refusals.specs.declared.Refusal.TheVariants.{NoSuchEntry}
-use Rattle.runs.specs.Histories.{Event, parse, evaluate, lookup, next, tally, trace, History}
-use Rattle.queries.proofs.Listing.{joined_within}
+use Rattle.runs.specs.Histories.{next, Event, wording, evaluation, question, History}
 use Rattle.queries.specs.Meanings.{IsJoined, JoinedPairs}
-use Rattle.runs.specs.Laws.{Standing, evaluated, Obeys, Stays, latest, Walk, begins, goes_on, waits, Obeyed, call}
+use Rattle.runs.specs.Laws.{Standing, evaluated, Answers, Obeys, Stays, latest, Walk, begins, goes_on, waits, Obeyed, call}
 
 -- no pair comes before itself, or before one that comes before it
 not_both : (p q : ℕ × ℕ) → Before p.0 p.1 q.0 q.1 → Before q.0 q.1 p.0 p.1 → ⊥
@@ -82,36 +82,33 @@ module _ (g : Graph) (e : Expr) (pairs : List (ℕ × ℕ)) (l : JoinedPairs g e
       turned p before ∙ ap (λ xs. xs ++ (p ∷ [])) f ∙ sym more ∙ ap (λ n. take n pairs) (sym one)
 
 -- the law of the latest call
-last_call : (cells : ℕ) (h : History) (x : Event) (s' : Standing) → Obeyed cells (x ∷ h) s' → (s : Standing) × Obeyed cells h s × Obeys cells s x s'
-last_call cells h x s' (call {s = s} before o f) = (s, before, o)
+last_call : (h : History) (x : Event) (s' : Standing) → Obeyed (x ∷ h) s' → (s : Standing) × Obeyed h s × Obeys s x s'
+last_call h x s' (call {s = s} before o f) = (s, before, o)
 
 -- a call that a walk goes on behind leaves the standing as it is
-standing_stays : (cells : ℕ) (s s' : Standing) (x : Event) → Stays x → Obeys cells s x s' → s' ≡ s
-standing_stays cells s s' (parse text (Ok done)) w o = absurd w
-standing_stays cells s s' (parse text (Err x)) w o = o.1
-standing_stays cells s s' (evaluate g (Ok done)) w o = absurd w
-standing_stays cells s s' (evaluate g (Err x)) w o = o.1
-standing_stays cells s s' (lookup u v r) w o = o.1
-standing_stays cells s s' (next given r) w o = o.1
-standing_stays cells s s' (tally r) w o = o.1
-standing_stays cells s s' (trace u v room r) w o = o.1
+standing_stays : (s s' : Standing) (x : Event) → Stays x → Obeys s x s' → s' ≡ s
+standing_stays s s' (wording text (Ok done)) w o = absurd w
+standing_stays s s' (wording text (Err x)) w o = o.1
+standing_stays s s' (evaluation cells before g (Ok done)) w o = absurd w
+standing_stays s s' (evaluation cells before g (Err x)) w o = o.1
+standing_stays s s' (question x) w o = o.1
 
 -- the answer of a next that was accepted
-answered : (g : Graph) (e : Expr) (given a : Option (ℕ × ℕ)) (b : Bool) → MatchBool b (◌≡◌ {A = Result (Option (ℕ × ℕ)) Refusal} (Ok a) (Err NoSuchEntry)) (First (After given) g.entries (IsJoined g e) a) → First (After given) g.entries (IsJoined g e) a
-answered g e given a true h = absurd (cc h)
+answered : (g : Graph) (e : Expr) (given a : Option (ℕ × ℕ)) (b : Bool) → MatchBool b (IsRefused {T = Option (ℕ × ℕ)} (Ok a) 42 0 NoSuchEntry) (First (After given) g.entries (IsJoined g e) a) → First (After given) g.entries (IsJoined g e) a
+answered g e given a true h = absurd (cc h.0)
 answered g e given a false h = h
 
-pub next_answered : (cells : ℕ) (g : Graph) (e : Expr) (s' : Standing) (given a : Option (ℕ × ℕ)) → Obeys cells (evaluated e g) (next given (Ok a)) s' → First (After given) g.entries (IsJoined g e) a
-next_answered cells g e s' given a o = answered g e given a (outside g.entries given) o.0
+pub next_answered : (g : Graph) (e : Expr) (given a : Option (ℕ × ℕ)) → Answers (evaluated e g) (next given (Ok a)) → First (After given) g.entries (IsJoined g e) a
+next_answered g e given a o = answered g e given a (outside g.entries given) o
 
-pub walk_firsts : (cells : ℕ) (g : Graph) (e : Expr) (pairs : List (ℕ × ℕ)) → JoinedPairs g e pairs → {h : History} {before : List (ℕ × ℕ)} → Walk h before → Obeyed cells h (evaluated e g) → Firsts pairs before
-walk_firsts cells g e pairs l begins w = refl
-walk_firsts cells g e pairs l (goes_on {h = h} {pairs = before} p walk) w =
-    let c = last_call cells h _ _ w in
+pub walk_firsts : (g : Graph) (e : Expr) (pairs : List (ℕ × ℕ)) → JoinedPairs g e pairs → {h : History} {before : List (ℕ × ℕ)} → Walk h before → Obeyed h (evaluated e g) → Firsts pairs before
+walk_firsts g e pairs l begins w = refl
+walk_firsts g e pairs l (goes_on {h = h} {pairs = before} p walk) w =
+    let c = last_call h _ _ w in
     let same : c.0 ≡ evaluated e g = sym c.2.1 in
-    let f = walk_firsts cells g e pairs l walk (rw same at c.1) in
-    firsts_more g e pairs l before p f (next_is g e pairs l before (Some p) f (next_answered cells g e (evaluated e g) (latest before) (Some p) (rw same at c.2)))
-walk_firsts cells g e pairs l (waits {h = h} x stays walk) w =
-    let c = last_call cells h x _ w in
-    let same : c.0 ≡ evaluated e g = sym (standing_stays cells c.0 _ x stays c.2) in
-    walk_firsts cells g e pairs l walk (rw same at c.1)
+    let f = walk_firsts g e pairs l walk (rw same at c.1) in
+    firsts_more g e pairs l before p f (next_is g e pairs l before (Some p) f (next_answered g e (latest before) (Some p) (rw same at c.2.0)))
+walk_firsts g e pairs l (waits {h = h} x stays walk) w =
+    let c = last_call h x _ w in
+    let same : c.0 ≡ evaluated e g = sym (standing_stays c.0 _ x stays c.2) in
+    walk_firsts g e pairs l walk (rw same at c.1)

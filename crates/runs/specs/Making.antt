@@ -13,7 +13,7 @@ use Rattle.runs.specs.Runs.{Does}
 pub record Made {S : Type 0} (graph : S → Graph) (request : Request S) (q q' : Condition) (table table' : List ℕ) (steps steps' : List Step) (answer : Answer) : Type 0 where
   pub event : Event
   pub traced : List Step
-  pub tells : Tells graph (length steps) request answer event traced
+  pub tells : Tells graph (length table) (length steps) request answer event traced
   pub does : Does q table event q' table'
   pub count : steps_in answer ≡ length traced
   pub written : steps' ≡ traced ++ drop (length traced) steps

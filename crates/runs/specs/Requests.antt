@@ -10,7 +10,7 @@ use Rattle.runs.specs.declared.request.Answer.{Answer}
 use Rattle.runs.specs.declared.request.Answer.TheVariants as answered
 use Rattle.runs.specs.declared.request.Request.{Request}
 use Rattle.runs.specs.declared.request.Request.TheVariants.{Tally, Parse, Evaluate, Lookup, Next, Trace}
-use Rattle.runs.specs.Histories.{Event, parse, evaluate, lookup, next, tally, trace, History}
+use Rattle.runs.specs.Histories.{lookup, next, tally, trace, Event, wording, evaluation, question, History}
 use Rattle.runs.specs.Laws.{Law}
 use Rattle.runs.specs.Runs.{Run}
 
@@ -24,28 +24,28 @@ steps_in (answered.Tally r) = 0
 steps_in (answered.Trace (Ok k)) = k
 steps_in (answered.Trace (Err x)) = 0
 
--- the event of a request and its answer, where so many steps of the buffer are left, and the steps that were written: those of an accepted trace, whose room is what was asked for, or what was left where that is less
-pub data Tells {S : Type 0} (graph : S → Graph) (left : ℕ) : Request S → Answer → Event → List Step → Type 0 where
-  a_parse : (text : Bor (List ℕ)) (r : Result Unit Refusal) → Tells graph left (Parse text) (answered.Parse r) (parse text.now r) []
-  an_evaluation : (source : Bor S) (r : Result Unit Refusal) → Tells graph left (Evaluate source) (answered.Evaluate r) (evaluate (graph source.now) r) []
-  a_lookup : (u v : ℕ) (r : Result Found Refusal) → Tells graph left (Lookup u v) (answered.Lookup r) (lookup u v r) []
-  a_next : (after : Option (ℕ × ℕ)) (r : Result (Option (ℕ × ℕ)) Refusal) → Tells graph left (Next after) (answered.Next r) (next after r) []
-  a_tally : (r : Result ℕ Refusal) → Tells graph left Tally (answered.Tally r) (tally r) []
-  a_trace : (u v room : ℕ) (s : List Step) → Tells graph left (Trace u v room) (answered.Trace (Ok (length s))) (trace u v (min room left) (Ok s)) s
-  a_refused_trace : (u v room : ℕ) (x : Refusal) → Tells graph left (Trace u v room) (answered.Trace (Err x)) (trace u v (min room left) (Err x)) []
+-- the event of a request and its answer, with a table of so many cells, where so many steps of the buffer are left, and the steps that were written: those of an accepted trace, whose room is what was asked for, or what was left where that is less
+pub data Tells {S : Type 0} (graph : S → Graph) (cells left : ℕ) : Request S → Answer → Event → List Step → Type 0 where
+  a_parse : (text : Bor (List ℕ)) (r : Result Unit Refusal) → Tells graph cells left (Parse text) (answered.Parse r) (wording text.now r) []
+  an_evaluation : (source : Bor S) (r : Result Unit Refusal) → Tells graph cells left (Evaluate source) (answered.Evaluate r) (evaluation cells [] (graph source.now) r) []
+  a_lookup : (u v : ℕ) (r : Result Found Refusal) → Tells graph cells left (Lookup u v) (answered.Lookup r) (question (lookup u v r)) []
+  a_next : (after : Option (ℕ × ℕ)) (r : Result (Option (ℕ × ℕ)) Refusal) → Tells graph cells left (Next after) (answered.Next r) (question (next after r)) []
+  a_tally : (r : Result ℕ Refusal) → Tells graph cells left Tally (answered.Tally r) (question (tally r)) []
+  a_trace : (u v room : ℕ) (s : List Step) → Tells graph cells left (Trace u v room) (answered.Trace (Ok (length s))) (question (trace u v (min room left) (Ok s))) s
+  a_refused_trace : (u v room : ℕ) (x : Refusal) → Tells graph cells left (Trace u v room) (answered.Trace (Err x)) (question (trace u v (min room left) (Err x))) []
 
--- the history of requests and their answers, and the steps of all its traces in their order, in a buffer of so many
-pub data Transcript {S : Type 0} (graph : S → Graph) (buffer : ℕ) : List (Request S) → List Answer → History → List Step → Type 0 where
-  new : Transcript graph buffer [] [] [] []
-  call : {requests : List (Request S)} {answers : List Answer} {h : History} {steps : List Step} {request : Request S} {answer : Answer} {x : Event} {s : List Step} → Transcript graph buffer requests answers h steps → Tells graph (buffer - length steps) request answer x s → Transcript graph buffer (requests ++ (request ∷ [])) (answers ++ (answer ∷ [])) (x ∷ h) (steps ++ s)
+-- the history of requests and their answers, with a table of so many cells, and the steps of all its traces in their order, in a buffer of so many
+pub data Transcript {S : Type 0} (graph : S → Graph) (cells buffer : ℕ) : List (Request S) → List Answer → History → List Step → Type 0 where
+  new : Transcript graph cells buffer [] [] [] []
+  call : {requests : List (Request S)} {answers : List Answer} {h : History} {steps : List Step} {request : Request S} {answer : Answer} {x : Event} {s : List Step} → Transcript graph cells buffer requests answers h steps → Tells graph cells (buffer - length steps) request answer x s → Transcript graph cells buffer (requests ++ (request ∷ [])) (answers ++ (answer ∷ [])) (x ∷ h) (steps ++ s)
 
 -- a run of requests: so many are made, as many as there are requests and places for answers; their history obeys the law; the steps of the traces stand in the buffer in their order; and the rest of the buffer and of the answers is as it was
 pub record Ran {S : Type 0} (graph : S → Graph) (requests : List (Request S)) (table table' : List ℕ) (steps steps' : List Step) (answers answers' : List Answer) (made : ℕ) : Type 0 where
   pub history : History
   pub traced : List Step
   pub count : made ≡ min (length requests) (length answers)
-  pub transcript : Transcript graph (length steps) (take made requests) (take made answers') history traced
-  pub law : Law (length table) history
+  pub transcript : Transcript graph (length table) (length steps) (take made requests) (take made answers') history traced
+  pub law : Law history
   pub written : steps' ≡ traced ++ drop (length traced) steps
   pub behind : drop made answers' ≡ drop made answers
   pub condition : Condition

@@ -1,4 +1,4 @@
-// Runs of calls of one query, and the law that they obey.
+//! Runs of calls of one query, and the law that they obey.
 #![tactic(auto)]
 
 pub mod law;

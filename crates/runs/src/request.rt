@@ -5,7 +5,7 @@ ghost use Rattle.runs.specs.Requests.{steps_in};
 use queries::found::Found;
 use refusals::Refusal;
 
-// A call, with what it takes. `room` is how many steps of the buffer a trace may fill.
+/// A call, with what it takes. `room` is how many steps of the buffer a trace may fill.
 #[derive_where(Clone, Copy)]
 pub enum Request<'a, S> {
     Parse(&'a [u8]),
@@ -16,7 +16,7 @@ pub enum Request<'a, S> {
     Trace { u: usize, v: usize, room: usize },
 }
 
-// What the call of the same name answered.
+/// What the call of the same name answered.
 #[derive(Clone, Copy, PartialEq, Eq, Debug)]
 pub enum Answer {
     Parse(Result<(), Refusal>),
@@ -28,7 +28,7 @@ pub enum Answer {
 }
 
 impl Answer {
-    // How many steps were written: only a trace writes any.
+    /// How many steps were written: only a trace writes any.
     pub fn steps_written(&self) -> usize
         ensures { result ≡ steps_in self.now }
     {

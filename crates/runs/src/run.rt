@@ -29,7 +29,7 @@ fn make<S: Source>(
     }
 }
 
-// Makes the requests of a new query, one after another, as many as there are places for answers, and says how many. Each trace writes its steps behind those of the traces before it.
+/// Makes the requests of a new query, one after another, as many as there are places for answers, and says how many. Each trace writes its steps behind those of the traces before it.
 pub fn run<S: Source>(
     requests: &[Request<S>],
     table: &mut [u32],

@@ -27,7 +27,7 @@ impl Block<'_> {
         }
     }
 
-    // Takes the entries in order as middles.
+    // Goes over every entry as a middle.
     pub(crate) fn close(&mut self)
         requires { Small self.old }
         ensures place { SamePlace self.old self.new }

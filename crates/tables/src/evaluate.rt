@@ -7,10 +7,12 @@ ghost use Rattle.languages.specs.Algebra.{Cells};
 ghost use Rattle.languages.specs.Cells.{Lengths};
 ghost use Rattle.tables.specs.Blocks.{block_cell, SamePlace};
 ghost use Rattle.tables.specs.Limits.{most_entries};
-ghost use Rattle.tables.specs.Tables.{block_at, AllShow, Filled, Fills};
+ghost use Rattle.tables.specs.Layout.{start_of, cells_needed};
+ghost use Rattle.tables.specs.Tables.{AllShow, Filled, Fills};
 
 use crate::block::Block;
 use crate::cell::MOST_ENTRIES;
+use crate::cells::has_room;
 use expressions::part::{Part, Parts};
 use graphs::source::Source;
 use refusals::Refusal;
@@ -30,7 +32,7 @@ impl Block<'_> {
         requires entries { self.old.n ≡ (S.Source.graph source.now).entries }
         requires is_part { q < length parts.now }
         requires formed { well_formed 0 parts.now ≡ true }
-        requires done { length done.now ≡ block_at self.old.n q }
+        requires done { length done.now ≡ start_of parts.now self.old.n q }
         requires shown { AllShow (S.Source.graph source.now) parts.now q done.now }
         ensures place { SamePlace self.old self.new }
         ensures cells { Cells self.old.n (Lengths (S.Source.graph source.now) (part_expr parts.now q)) (block_cell self.old.n self.new.cells.now) }
@@ -67,7 +69,7 @@ fn fill_blocks<S: Source>(source: &S, parts: &[Part], table: &mut [u32], n: usiz
     requires few { n ≤ most_entries }
     requires short { length parts.now ≤ most_parts }
     requires formed { well_formed 0 parts.now ≡ true }
-    requires room { block_at n (length parts.now) ≤ length table.old }
+    requires room { cells_needed parts.now n ≤ length table.old }
     ensures { Filled (S.Source.graph source.now) parts.now (length parts.now) table.old table.new }
 {
     let size = n * n;
@@ -80,7 +82,7 @@ fn fill_blocks<S: Source>(source: &S, parts: &[Part], table: &mut [u32], n: usiz
     }
 }
 
-// Evaluates the parts of an expression over a source, and tells how many entries this has; or is refused, and changes nothing.
+/// Evaluates the parts of an expression over a source, and tells how many entries this has; or is refused, and changes nothing.
 pub fn evaluate<S: Source>(source: &S, parts: &Parts, table: &mut [u32]) -> Result<usize, Refusal>
     ensures { Fills (S.Source.graph source.now) (parts_of parts.now) table.old table.new result }
 {
@@ -89,7 +91,7 @@ pub fn evaluate<S: Source>(source: &S, parts: &Parts, table: &mut [u32]) -> Resu
         return Err(Refusal::SourceTooLarge);
     }
     let parts = parts.as_slice();
-    if table.len() < parts.len() * (n * n) {
+    if !has_room(parts, n, table.len()) {
         return Err(Refusal::TableTooShort);
     }
     fill_blocks(source, parts, table, n);

@@ -1,8 +1,9 @@
-// Tables of cells: how the block of each part of an expression is filled from those of its halves.
+//! Tables of cells: how the block of each part of an expression is filled from those of its halves.
 #![tactic(auto)]
 
 mod block;
 pub mod cell;
+pub mod cells;
 mod close;
 pub mod evaluate;
 mod join;

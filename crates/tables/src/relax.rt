@@ -16,7 +16,7 @@ fn joined(first: u32, second: u32) -> u32
     }
 }
 
-// Goes over a middle with one row: `first` leads to the middle, and `middle` on from there. A cell is stored exactly where that makes it smaller.
+// Goes over a middle with one row: `first` leads to the middle, and `middle` on from there.
 pub(crate) fn relax_row(row: &mut [u32], first: u32, middle: &[u32])
     requires same_length { length row.old ≡ length middle.now }
     requires small { EachIndex row.old (λ v. slice_index row.old v ≤ none) }
@@ -33,7 +33,7 @@ pub(crate) fn relax_row(row: &mut [u32], first: u32, middle: &[u32])
     }
 }
 
-// The same with each cell stored, which the compiler does for several at a time: for a row whose cells are all stored anyway.
+// The same, in a form that the compiler turns into work on several cells at a time: for a row that is made anew.
 pub(crate) fn lower_row(row: &mut [u32], first: u32, middle: &[u32])
     requires same_length { length row.old ≡ length middle.now }
     requires small { EachIndex row.old (λ v. slice_index row.old v ≤ none) }

@@ -1,4 +1,4 @@
--- The steps that are taken_within do not hang on the fuel, where there is enough. Assumes nothing.
+-- Which steps are taken does not hang on the fuel, where there is enough. Assumes nothing.
 use Rattle.std.proofs.Common.{◌≡◌, ℕ, zero, suc, ◌+◌, ◌<◌, true, List, length, Some, None, Option, refl, sym, ap₂, ◌∙◌, arith}
 use Rattle.expressions.specs.Numbering.{well_formed}
 use Rattle.expressions.specs.declared.part.Part.{Part}
@@ -6,7 +6,9 @@ use Rattle.expressions.proofs.Numbered.{part_stands}
 use Rattle.languages.specs.declared.step.Step.{Step}
 use Rattle.traces.specs.declared.choice.Choice.{Choice}
 use Rattle.traces.specs.declared.choice.Choice.TheVariants.{Stay, Along, Inside, Through}
-use Rattle.traces.specs.Choosing.{part_at, cell_of, choose, joined, follow, taken_within, chosen, ByChoice}
+use Rattle.tables.specs.Layout.{cell_at}
+use Rattle.traces.specs.Choosing.{part_at, choose}
+use Rattle.traces.specs.Taking.{joined, follow, taken_within, chosen, ByChoice}
 use Rattle.traces.proofs.Leads.{Leads, leads}
 
 module _ (parts : List Part) (d : ℕ → ℕ → ℕ → ℕ) (n : ℕ) (formed : well_formed 0 parts ≡ true) where
@@ -38,4 +40,4 @@ module _ (parts : List Part) (d : ℕ → ℕ → ℕ → ℕ) (n : ℕ) (formed
 
 pub by_choice : (parts : List Part) (table : List ℕ) (n : ℕ) → well_formed 0 parts ≡ true → ByChoice parts table n
 unfolding chosen
-by_choice parts table n formed q u v low = one_more parts (cell_of table n) n formed (chosen parts table n) (λ p x y. refl) q u v low
+by_choice parts table n formed q u v low = one_more parts (cell_at parts table n) n formed (chosen parts table n) (λ p x y. refl) q u v low

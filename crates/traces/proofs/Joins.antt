@@ -12,11 +12,14 @@ use Rattle.languages.specs.declared.step.Step.{Step}
 use Rattle.languages.specs.Cells.{Cell, Lengths, long}
 use Rattle.languages.specs.Languages.{Pieces, In, Joined}
 use Rattle.languages.specs.Paths.{Path, end}
-use Rattle.languages.proofs.Walks.{path_end, path_join, join_out, epsilon_back, letter_back, star_more, untested}
+use Rattle.languages.proofs.Forms.{by_steps, join_out, epsilon_back, letter_back, star_more, untested}
+use Rattle.languages.proofs.Walks.{path_end, path_join}
+use Rattle.tables.specs.Layout.{cell_at}
 use Rattle.tables.specs.Tables.{AllShow}
 use Rattle.traces.specs.declared.choice.Choice.{Choice}
 use Rattle.traces.specs.declared.choice.Choice.TheVariants.{Stay, Along, Inside, Through}
-use Rattle.traces.specs.Choosing.{part_at, cell_of, first, is_middle, over, through, inside, stay, pieces, choose, joined, follow, chosen}
+use Rattle.traces.specs.Choosing.{part_at, first, is_middle, over, through, inside, stay, pieces, choose}
+use Rattle.traces.specs.Taking.{joined, follow, chosen}
 use Rattle.traces.proofs.Firsts.{first_none}
 use Rattle.traces.proofs.Fuel.{led, by_choice}
 use Rattle.traces.proofs.Leads.{Leads, by_test, middle_told}
@@ -126,10 +129,10 @@ module _ (g : Graph) (d : ℕ → ℕ → ℕ → ℕ) (p : ℕ) (E : ℕ → Ex
 
     right : (x : Part) → stands_on q x ≡ true → E q ≡ made E q x → Good (choose d g.entries x q u v k)
     right Epsilon h is =
-        let z = epsilon_back g u v k (have epsilon is) in
+        let z = epsilon_back g by_steps u v k (have epsilon is) in
         by_test Good ((u == v) && (k == 0)) Stay (λ t. (z.1, back u [] is refl)) (λ t. grind (arith, nat_tests))
     right (Letter a) h is =
-        let w = letter_back g a u v k (have (letter a) is) in
+        let w = letter_back g by_steps a u v k (have (letter a) is) in
         by_test Good (k == 1) (Along (record { letter = a; entry = v }))
         (λ e. ((hu, w.1, (hv, refl)), back u (record { letter = a; entry = v } ∷ []) is (v, refl)))
         (λ e. grind (arith, nat_tests))
@@ -141,7 +144,7 @@ module _ (g : Graph) (d : ℕ → ℕ → ℕ → ℕ) (p : ℕ) (E : ℕ → Ex
         or_good (inside d l u v k) (inside d (q - 1) u v k) (inside_good l left)
         (λ no. ⊎_elim (λ i. absurd (inside_none l no (counted l low_left left (w.0, (w.1.0, i), w.2)))) (λ i. inside_last (q - 1) (omega arith) other (w.0, (w.1.0, i), w.2)) w.1.1)
     right (Join l) h is =
-        let w = join_out g (E l) (E (q - 1)) u v k (have (join (E l) (E (q - 1))) is) in
+        let w = join_out g by_steps (In g (E l)) (In g (E (q - 1))) u v k (have (join (E l) (E (q - 1))) is) in
         let low_left : l + 1 < q = grind (arith, nat_tests) in
         through_good 0 l (q - 1) w.0 w.2.0 w.2.1 (omega arith) (omega arith) w.1
         (λ m s t i j. back u (s ++ t) is (s, t, refl, i.1, moved (E (q - 1)) m s t i.0 j.1))
@@ -155,9 +158,9 @@ module _ (g : Graph) (d : ℕ → ℕ → ℕ → ℕ) (p : ℕ) (E : ℕ → Ex
         let w = have (star (E (q - 1))) is in
         or_good (stay u v k) (pieces d g.entries q u v k)
         (by_stay)
-        (λ no. ⊎_elim (λ e. absurd (none_stays no (epsilon_back g u v k (w.0, (w.1.0, e), w.2))))
+        (λ no. ⊎_elim (λ e. absurd (none_stays no (epsilon_back g by_steps u v k (w.0, (w.1.0, e), w.2))))
         (λ r. pieces_good (grind (arith, nat_tests)) (λ s j. back u s is (inr (Pieces.one j.1)))
-        (λ m s t i j. back u (s ++ t) is (star_more g (E (q - 1)) u s t i.1 (forth (end u s) t is (moved (E q) m s t i.0 j.1))))
+        (λ m s t i j. back u (s ++ t) is (star_more (In g (E (q - 1))) u s t i.1 (forth (end u s) t is (moved (E q) m s t i.0 j.1))))
         (λ m t r. back m t is (inr r)) w.0 w.1.0 r w.2) w.1.1)
       where
         by_stay : (x : Choice) → stay u v k ≡ Some x → Good (Some x)
@@ -166,10 +169,10 @@ module _ (g : Graph) (d : ℕ → ℕ → ℕ → ℕ) (p : ℕ) (E : ℕ → Ex
         none_stays : stay u v k ≡ None → (k ≡ 0) × (u ≡ v) → ⊥
         none_stays = by_test (λ o. o ≡ None → (k ≡ 0) × (u ≡ v) → ⊥) ((u == v) && (k == 0)) Stay (λ t e z. absurd cc) (λ t e z. grind (arith, nat_tests, z.0, z.1))
     right Same h is =
-        let w = untested g (E (q - 1)) true u v k (have (same (E (q - 1))) is) in
+        let w = untested g by_steps g.same (In g (E (q - 1))) true u v k (have (same (E (q - 1))) is) in
         inside_last (q - 1) (grind (arith, nat_tests)) (test_as true (λ s i e. back u s is (i, e)) w.1) w.0
     right Differ h is =
-        let w = untested g (E (q - 1)) false u v k (have (differ (E (q - 1))) is) in
+        let w = untested g by_steps g.same (In g (E (q - 1))) false u v k (have (differ (E (q - 1))) is) in
         inside_last (q - 1) (grind (arith, nat_tests)) (test_as false (λ s i e. back u s is (i, e)) w.1) w.0
 
   -- the steps of a data path of part q, as many as its cell counts
@@ -194,7 +197,7 @@ module _ (g : Graph) (d : ℕ → ℕ → ℕ → ℕ) (p : ℕ) (E : ℕ → Ex
 
 module _ (g : Graph) (parts : List Part) (table : List ℕ) (formed : well_formed 0 parts ≡ true) (shown : AllShow g parts (length parts) table) where
   abbrev d : ℕ → ℕ → ℕ → ℕ
-  d = cell_of table g.entries
+  d = cell_at parts table g.entries
 
   within : (f q u v : ℕ) → q < length parts → u < g.entries → v < g.entries → d q u v < long → q + d q u v < f → Joins g d (length parts) (part_expr parts) (λ q u v lq lu lv. shown q lq u v lu lv) q u v (chosen parts table g.entries q u v)
   within zero q u v low hu hv small more = absurd (omega arith)

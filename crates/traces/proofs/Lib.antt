@@ -4,3 +4,4 @@ pub mod Fuel
 pub mod Standing
 pub mod Pieces
 pub mod Joins
+pub mod Led

@@ -1,4 +1,4 @@
--- Repeats, whose first piece may be taken_within to have steps; and cells below 1,000. Assumes nothing.
+-- Repeats, whose first piece may be taken to have steps; and cells below 1,000. Assumes nothing.
 use Rattle.std.proofs.Common.{◌≡◌, ℕ, ◌+◌, ◌<◌, ◌≤◌, ◌⊎◌, inl, inr, List, [], ◌∷◌, length, sym, subst, length-append, arith}
 use Rattle.expressions.specs.Exprs.{Expr}
 use Rattle.graphs.specs.Graphs.{Graph}

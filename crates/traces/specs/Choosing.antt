@@ -1,17 +1,12 @@
--- How the steps of a path are taken from a table: at each part and pair, what its cell and the cells of the parts before it choose. Assumes nothing.
-use Rattle.std.specs.Prelude.{◌≡◌, ℕ, zero, suc, ◌+◌, ◌-◌, ◌<◌, Bool, cond, ◌&&◌, List, [], ◌∷◌, ◌++◌, length, drop, Some, None, Option, ◌==◌, nat_le, slice_index_or}
+-- What is chosen at each part and pair, by its cell and those of the parts before it. Assumes nothing.
+use Rattle.std.specs.Prelude.{◌≡◌, ℕ, zero, suc, ◌+◌, ◌-◌, Bool, cond, ◌&&◌, List, ◌++◌, length, drop, Some, None, Option, ◌==◌, nat_le, slice_index_or}
 use Rattle.std.specs.Option.{option_or}
 use Rattle.expressions.specs.declared.part.Part.{Part}
 use Rattle.expressions.specs.declared.part.Part.TheVariants.{Epsilon, Letter, Either, Join, Plus, Star, Same, Differ}
 use Rattle.languages.specs.declared.step.Step.{Step}
-use Rattle.tables.specs.Blocks.{cell}
-use Rattle.tables.specs.Tables.{block_at}
+use Rattle.tables.specs.Layout.{cell_at}
 use Rattle.traces.specs.declared.choice.Choice.{Choice}
 use Rattle.traces.specs.declared.choice.Choice.TheVariants.{Stay, Along, Inside, Through}
-
--- the cell of u and v in the block of part q
-abbrev pub cell_of : List ℕ → ℕ → ℕ → ℕ → ℕ → ℕ
-cell_of table n q u v = cell table (block_at n q) n u v
 
 -- the part of a number (`Epsilon` past the end)
 abbrev pub part_at : List Part → ℕ → Part
@@ -62,42 +57,11 @@ choose d n Star q u v k = option_or (stay u v k) (pieces d n q u v k)
 choose d n Same q u v k = inside d (q - 1) u v k
 choose d n Differ q u v k = inside d (q - 1) u v k
 
--- the steps of one path and then those of another
-abbrev pub joined : Option (List Step) → Option (List Step) → Option (List Step)
-joined (Some s) (Some t) = Some (s ++ t)
-joined (Some s) None = None
-joined None found = None
-
--- the steps that a choice leads to, by those of the parts and pairs that it names
-abbrev pub follow : (ℕ → ℕ → ℕ → Option (List Step)) → ℕ → ℕ → Option Choice → Option (List Step)
-follow go u v None = None
-follow go u v (Some Stay) = Some []
-follow go u v (Some (Along step)) = Some (step ∷ [])
-follow go u v (Some (Inside q)) = go q u v
-follow go u v (Some (Through left m right)) = joined (go left u m) (go right m v)
-
--- the steps that are taken at part q from u to v, with so much fuel: a number from which each choice takes one, so that the definition ends. A choice leads to where the number of the part and the cell add up to less
-abbrev pub taken_within : List Part → (ℕ → ℕ → ℕ → ℕ) → ℕ → ℕ → ℕ → ℕ → ℕ → Option (List Step)
-taken_within parts d n zero q u v = None
-taken_within parts d n (suc fuel) q u v = follow (taken_within parts d n fuel) u v (choose d n (part_at parts q) q u v (d q u v))
-
--- the steps that are taken at part q from u to v, or none where the cells lead to no steps: the fuel suffices
-unfoldable pub chosen : List Part → List ℕ → ℕ → ℕ → ℕ → ℕ → Option (List Step)
-chosen parts table n q u v = taken_within parts (cell_of table n) n (q + cell_of table n q u v + 1) q u v
-
--- the count of the whole expression, which is the last part, and the steps that are taken for it
+-- the count of the whole expression, which is the last part
 abbrev pub whole_count : List Part → List ℕ → ℕ → ℕ → ℕ → ℕ
-whole_count parts table n u v = cell_of table n (length parts - 1) u v
+whole_count parts table n u v = cell_at parts table n (length parts - 1) u v
 
-abbrev pub whole_steps : List Part → List ℕ → ℕ → ℕ → ℕ → Option (List Step)
-whole_steps parts table n u v = chosen parts table n (length parts - 1) u v
-
--- the fuel does not matter: the steps at a part and a pair are those that the choice there leads to
-abbrev pub ByChoice : List Part → List ℕ → ℕ → Type 0
-ByChoice parts table n =
-    (q u v : ℕ) → q < length parts → chosen parts table n q u v ≡ follow (chosen parts table n) u v (choose (cell_of table n) n (part_at parts q) q u v (cell_of table n q u v))
-
--- steps that are chosen, so many, stand at the front, and what lies behind them is as it was
+-- the steps that are led to, so many, stand at the front, and what lies behind them is as it was
 pub record Taken (found : Option (List Step)) (k : ℕ) (steps steps' : List Step) : Type 0 where
   pub path : List Step
   pub are : found ≡ Some path

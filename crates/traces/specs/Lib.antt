@@ -1,3 +1,5 @@
 pub mod Choosing
+pub mod Taking
 pub mod Tracing
 pub mod Places
+pub mod Leading

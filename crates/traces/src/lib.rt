@@ -1,6 +1,6 @@
-// Traces: how the steps of a path are taken from a table.
+//! Traces: how the steps of a path are taken from a table.
 #![tactic(auto)]
 
-mod blocks;
 mod choice;
+mod chooser;
 pub mod trace;

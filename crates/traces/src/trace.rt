@@ -1,16 +1,16 @@
 // The steps of a path, taken from a table.
 ghost use Rattle.std.specs.Prelude.{◌≡◌, ℕ, ◌+◌, ◌<◌, ◌≤◌, length, None, MatchOption};
 ghost use Rattle.expressions.specs.Storing.{parts_of};
-ghost use Rattle.traces.specs.Choosing.{ByChoice};
 ghost use Rattle.traces.specs.Places.{PlaceIn, cells_in, chosen_at, Stands};
 ghost use Rattle.traces.specs.Tracing.{steps_row, path_rows, TakenBy, TracesSteps};
 
-use crate::blocks::Blocks;
 use crate::choice::Choice;
+use crate::chooser::Chooser;
 use expressions::part::Parts;
 use languages::step::Step;
 use refusals::Refusal;
 use tables::cell::{LONG, MOST_STEPS};
+use tables::cells::Cells;
 
 // Most paths that are told have no more than so many steps.
 const FEW_STEPS: usize = 15;
@@ -21,7 +21,7 @@ const NO_STEP: Step = Step {
     entry: 0,
 };
 
-impl Blocks<'_> {
+impl Chooser<'_> {
     // Writes the steps that are chosen at part q from an offset on, and tells where they end; nothing is told where the cells lead to no steps.
     fn put_steps(
         &self,
@@ -98,7 +98,7 @@ impl Blocks<'_> {
     }
 }
 
-// Writes the steps that are chosen for the whole expression from u to v at the front of the buffer, and tells how many; or is refused, and writes nothing.
+/// Writes the steps that are chosen for the whole expression from u to v at the front of the buffer, and tells how many; or is refused, and writes nothing.
 pub fn trace(
     parts: &Parts,
     table: &[u32],
@@ -107,12 +107,11 @@ pub fn trace(
     v: usize,
     steps: &mut [Step],
 ) -> Result<usize, Refusal>
-    ensures taken { TracesSteps (parts_of parts.now) table.now n u v steps.old steps.new result }
-    ensures by_choice { ByChoice (parts_of parts.now) table.now n }
+    ensures { TracesSteps (parts_of parts.now) table.now n u v steps.old steps.new result }
 {
     if u >= n || v >= n {
         return Err(Refusal::NoSuchEntry);
     }
-    let blocks = Blocks::over(parts, table, n).ok_or(Refusal::TableCut)?;
-    blocks.tell_by_cell(blocks.parts.len() - 1, u, v, steps)
+    let cells = Cells::over(parts, table, n)?;
+    Chooser { cells }.tell_by_cell(cells.parts.len() - 1, u, v, steps)
 }

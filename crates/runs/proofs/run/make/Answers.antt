@@ -8,7 +8,7 @@ pub returns-in-Parse : goal.returns-in-Parse
 returns-in-Parse g c = made_parse _ _ _ _ _ c.in-Parse.text c.in-Parse.is _ _ c.parse.ensures
 
 pub returns-in-Evaluate : goal.returns-in-Evaluate
-returns-in-Evaluate g c = made_evaluate _ _ _ _ _ c.in-Evaluate.source c.in-Evaluate.is _ _ _ c.evaluate.ensures.evaluated
+returns-in-Evaluate g c = made_evaluate _ _ _ _ _ c.in-Evaluate.source c.in-Evaluate.is _ _ _ c.evaluate.ensures.evaluated c.evaluate.ensures.meant
 
 pub returns-in-Lookup : goal.returns-in-Lookup
 returns-in-Lookup g c = made_lookup _ _ _ _ _ _ _ c.in-Lookup.is _ c.lookup.ensures

@@ -1,12 +1,28 @@
+use Rattle.std.proofs.Common.{rules, sym, arith}
 use Rattle.expressions.specs.Storing.{parts_of}
-use Rattle.traces.proofs.Fuel.{by_choice}
+use Rattle.traces.proofs.Led.{leading, leading_once}
 use Rattle.traces.proofs.trace.trace.Goals as goal
 
-pub returns-then-u-n-clause-by_choice : goal.returns-then-u-n-clause-by_choice
-returns-then-u-n-clause-by_choice c = by_choice (parts_of c.args.parts.now) c.args.table.now c.args.n c.args.parts.now.formed
+pub returns-then-u-n : goal.returns-then-u-n
+returns-then-u-n c = record {
+  found = _;
+  led = leading (parts_of c.args.parts.now) c.args.table.now c.args.n c.args.parts.now.formed _ c.args.u c.args.v (omega (arith, c.args.parts.now.some));
+  once = λ other h. sym (leading_once (parts_of c.args.parts.now) c.args.table.now c.args.n c.args.parts.now.formed _ c.args.u c.args.v (omega (arith, c.args.parts.now.some)) other h);
+  taken = search rules;
+}
 
-pub returns-in_err-blocks-clause-by_choice : goal.returns-in_err-blocks-clause-by_choice
-returns-in_err-blocks-clause-by_choice c = by_choice (parts_of c.args.parts.now) c.args.table.now c.args.n c.args.parts.now.formed
+pub returns-in_err-cells : goal.returns-in_err-cells
+returns-in_err-cells c = record {
+  found = _;
+  led = leading (parts_of c.args.parts.now) c.args.table.now c.args.n c.args.parts.now.formed _ c.args.u c.args.v (omega (arith, c.args.parts.now.some));
+  once = λ other h. sym (leading_once (parts_of c.args.parts.now) c.args.table.now c.args.n c.args.parts.now.formed _ c.args.u c.args.v (omega (arith, c.args.parts.now.some)) other h);
+  taken = search rules;
+}
 
-pub returns-clause-by_choice : goal.returns-clause-by_choice
-returns-clause-by_choice c = by_choice (parts_of c.args.parts.now) c.args.table.now c.args.n c.args.parts.now.formed
+pub returns : goal.returns
+returns c = record {
+  found = _;
+  led = leading (parts_of c.args.parts.now) c.args.table.now c.args.n c.args.parts.now.formed _ c.args.u c.args.v (omega (arith, c.args.parts.now.some));
+  once = λ other h. sym (leading_once (parts_of c.args.parts.now) c.args.table.now c.args.n c.args.parts.now.formed _ c.args.u c.args.v (omega (arith, c.args.parts.now.some)) other h);
+  taken = search rules;
+}

@@ -1,0 +1,6 @@
+-- Until a write is taken, the writer holds what it held.
+use Rattle.std.specs.Io.KnownBytes.{Keeps}
+use Rattle.pairs.proofs.writing.write_some.Given as goal
+
+abbrev pub invariant-loop : goal.invariant-loop
+invariant-loop g l = Keeps (g.W.Write.contents l.initial.writer) (g.W.Write.contents l.writer)
