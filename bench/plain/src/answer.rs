@@ -71,7 +71,7 @@ fn ask<V: Value>(parts: &[Part], file: &[u8]) -> Result<Vec<u8>, Box<dyn Error>>
     })
 }
 
-// The lines of the answer to an input: a wording, byte 10 and a book file.
+// The lines of the answer to an input, which has the wording in front of its first byte 10 and the book behind.
 pub fn answer(input: &[u8]) -> Result<Vec<u8>, Box<dyn Error>> {
     if input.len() > 8192 {
         return Err("refused 10 at 0".into());

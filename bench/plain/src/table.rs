@@ -18,7 +18,7 @@ fn joined(first: u32, second: u32) -> u32 {
     }
 }
 
-// Goes over a middle with one row: `first` leads to the middle, and `middle` on from there. A cell is stored exactly where that makes it smaller.
+// Goes over a middle with one row: `first` leads to the middle, and `middle` on from there.
 fn relax_row(row: &mut [u32], first: u32, middle: &[u32]) {
     if first > LONG {
         return;
@@ -31,7 +31,7 @@ fn relax_row(row: &mut [u32], first: u32, middle: &[u32]) {
     }
 }
 
-// The same with each cell stored, which the compiler does for several at a time.
+// The same, in a form that the compiler turns into work on several cells at a time.
 fn lower_row(row: &mut [u32], first: u32, middle: &[u32]) {
     if first > LONG {
         return;
@@ -41,7 +41,7 @@ fn lower_row(row: &mut [u32], first: u32, middle: &[u32]) {
     }
 }
 
-// Takes the entries in order as middles.
+// Goes over every entry as a middle.
 fn close(block: &mut [u32], n: usize) {
     let mut middle = [0; 128];
     let middle = &mut middle[..n];
