@@ -67,7 +67,7 @@ not_before : (p q : ℕ × ℕ) → Before p.0 p.1 q.0 q.1 → Before q.0 q.1 p.
 not_before p q a b = grind arith
 
 module _ (g : Graph) (e : Expr) where
-  one_pairs : (ps qs : List (ℕ × ℕ)) → JoinedPairs g e ps → JoinedPairs g e qs → ps ≡ qs
+  pub one_pairs : (ps qs : List (ℕ × ℕ)) → JoinedPairs g e ps → JoinedPairs g e qs → ps ≡ qs
   one_pairs ps qs a b =
       one_order (λ p q. Before p.0 p.1 q.0 q.1) not_before ps qs a.ordered b.ordered
       (λ x c. b.all x.0 x.1 (subst (λ p. IsJoined g e p.0 p.1) c.2 (a.joined c.0 x c.1)))

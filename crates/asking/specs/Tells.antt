@@ -8,7 +8,8 @@ use Rattle.graphs.specs.Graphs.{Graph}
 use Rattle.languages.specs.declared.step.Step.{Step}
 use Rattle.listing.specs.Lines.{first_line}
 use Rattle.queries.specs.Calls.{evaluate_rows, found_in, Evaluates}
-use Rattle.queries.specs.Conditions.{whole_cell}
+use Rattle.queries.specs.Conditions.{expr_in, whole_cell}
+use Rattle.queries.specs.Meanings.{Meant}
 use Rattle.queries.specs.Taking.{chosen_in}
 use Rattle.queries.specs.Pairs.{tallied}
 use Rattle.queries.specs.declared.condition.Condition.{Condition}
@@ -64,7 +65,7 @@ lines_before e u =
 abbrev pub WorkedAs : KindOfValue → Counts → List ℕ → Condition → List ℕ → Condition → List ℕ → Result ℕ Refusal
     → Type 0
 WorkedAs k room file q t q' t' (Ok n) =
-    (g : Graph) × BookOf k room file g × (n ≡ g.entries) × Evaluates q g t q' t' (Ok tt)
+    (g : Graph) × BookOf k room file g × (n ≡ g.entries) × Evaluates q g t q' t' (Ok tt) × Meant g (expr_in q') q' t'
 WorkedAs k room file q t q' t' (Err x) =
     Refused k.shape room file x
     ⊎ ((g : Graph) × BookOf k room file g × (first_refusal (evaluate_rows q g t) ≡ Some (numbered x)))

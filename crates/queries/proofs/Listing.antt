@@ -10,7 +10,7 @@ use Rattle.languages.proofs.Walks.{joined_within}
 use Rattle.languages.specs.Algebra.{Cells}
 use Rattle.languages.specs.Cells.{Lengths, long}
 use Rattle.queries.specs.Meanings.{IsJoined, JoinedPairs, Counted}
-use Rattle.queries.specs.Pairs.{Before, First, Reaches, reaches, sum_to, tallied}
+use Rattle.queries.specs.Pairs.{Before, First, Reaches, reached_in_row, reached_pairs, reaches, sum_to, tallied}
 
 -- the pairs before (x, y) of which P holds, in their order
 pub record Listed (P : ℕ → ℕ → Type 0) (x y : ℕ) (pairs : List (ℕ × ℕ)) : Type 0 where
@@ -70,16 +70,6 @@ module _ (P : ℕ → ℕ → Type 0) where
     all = λ u v p b. let w = within u v p in l.all u v p (grind arith);
     ordered = l.ordered;
   }
-
--- the pairs of x and each entry below y whose cells tell of a path, in their order
-abbrev pub reached_in_row : (ℕ → ℕ → ℕ) → ℕ → ℕ → List (ℕ × ℕ)
-reached_in_row d x zero = []
-reached_in_row d x (suc y) = reached_in_row d x y ++ cond (leb (d x y) long) ((x, y) ∷ []) []
-
--- those of the first rows, among n entries
-abbrev pub reached_pairs : (ℕ → ℕ → ℕ) → ℕ → ℕ → List (ℕ × ℕ)
-reached_pairs d n zero = []
-reached_pairs d n (suc x) = reached_pairs d n x ++ reached_in_row d x n
 
 one_counted : (pairs : List (ℕ × ℕ)) (x y c : ℕ) (b : Bool) → leb c long ≡ b → length (pairs ++ cond b ((x, y) ∷ []) []) ≡ length pairs + reaches c
 one_counted pairs x y c true e = rw e (length-append pairs ((x, y) ∷ []))

@@ -32,7 +32,7 @@ use Rattle.queries.specs.Taking.{chosen_in}
 use Rattle.queries.specs.Meanings.{Told, Led, Meant}
 use Rattle.queries.specs.Pairs.{After, First, Reaches, tallied}
 use Rattle.queries.proofs.Among.{among, pair_within}
-use Rattle.queries.proofs.Listing.{first_joined, pairs_counted}
+use Rattle.queries.proofs.Listing.{first_joined, pairs_counted, pairs_listed}
 use Rattle.queries.proofs.Tracing.{taken_by, absent, only_long, no_room, accepted, c, found, rows_as}
 
 module _ (g : Graph) (e : Expr) (u v c : ℕ) (h : Cell (Lengths g e u v) c) where
@@ -139,6 +139,7 @@ module _ (g : Graph) (p : Parts) (t : List ℕ) (room : cells_needed (parts_of p
         (λ o b. accepted_by r _ _ (first_joined g (expr_in q) d cells (After given)) b);
     tallies = λ r l. among p g.entries t room None r [] (λ k. k ≡ tallied d g.entries g.entries) l _
         (λ o b. accepted_by r _ _ (λ k is. rw is (pairs_counted g (expr_in q) d cells)) b);
+    listed = pairs_listed g (expr_in q) d cells;
   }
 
 meant_by : (g : Graph) (p : Parts) (t : List ℕ) (q' : Condition) (t' : List ℕ) → q' ≡ evaluated (Parsed p) g.entries → cells_needed (parts_of p) g.entries ≤ length t → Filled g (parts_of p) (length (parts_of p)) t t' → Meant g (expr_in q') q' t'

@@ -14,7 +14,8 @@ use Rattle.queries.specs.declared.condition.Condition.{Condition}
 use Rattle.queries.specs.declared.found.Found.{Found}
 use Rattle.queries.specs.declared.found.Found.TheVariants.{Steps, Long, Absent}
 use Rattle.queries.specs.Calls.{Looks, Nexts, Tallies, Traces, outside}
-use Rattle.queries.specs.Pairs.{After, Before, First}
+use Rattle.queries.specs.Conditions.{whole_cell}
+use Rattle.queries.specs.Pairs.{After, Before, First, reached_pairs}
 
 -- what is found of a pair is so: the count of one data path in the language that joins it, to which every other is at least equal; long where there are such paths, and all have 1,000 steps or more; absent where there is none
 abbrev pub Told : Graph → Expr → ℕ → ℕ → Found → Type 0
@@ -55,9 +56,12 @@ Led g e u v steps steps' r (Steps k) =
 abbrev pub AmongOr42 : {T : Type 0} → ℕ → Option (ℕ × ℕ) → Result T Refusal → Type 0 → Type 0
 AmongOr42 n pair r Answered = MatchBool (outside n pair) (IsRefused r 42 0 NoSuchEntry) Answered
 
--- every question is answered by what is so: a lookup tells it of its pair, and a trace goes by it; a next answers the first joined pair after the one that is given, or that there is none; a tally counts the joined pairs
+-- every question is answered by what is so: a lookup tells it of its pair, and a trace goes by it; a next answers the first
+-- joined pair after the one that is given, or that there is none; a tally counts the joined pairs; and the pairs of which
+-- a lookup does not say absent, in their order, are the joined pairs
 pub record Meant (g : Graph) (e : Expr) (q : Condition) (table : List ℕ) : Type 0 where
   pub lookups : (u v : ℕ) (r : Result Found Refusal) → Looks q table u v r → AmongOr42 g.entries (Some (u, v)) r (IsOkAnd r (Told g e u v))
   pub traces : (u v : ℕ) (steps steps' : List Step) (r : Result ℕ Refusal) → Traces q table u v steps steps' r → AmongOr42 g.entries (Some (u, v)) r ((f : Found) × Told g e u v f × Led g e u v steps steps' r f)
   pub nexts : (given : Option (ℕ × ℕ)) (r : Result (Option (ℕ × ℕ)) Refusal) → Nexts q table given r → AmongOr42 g.entries given r (IsOkAnd r (First (After given) g.entries (IsJoined g e)))
   pub tallies : (r : Result ℕ Refusal) → Tallies q table r → IsOkAnd r (Counted g e)
+  pub listed : JoinedPairs g e (reached_pairs (whole_cell q table) g.entries g.entries)

@@ -1,5 +1,5 @@
 -- Pairs of entries in their order: the first of a kind, and their number. Of these `From` stands in no promise. Assumes nothing.
-use Rattle.std.specs.Prelude.{◌≡◌, ℕ, zero, suc, ◌+◌, ◌<◌, ◌≤◌, cond, ◌⊎◌, Some, None, Option, nat_le}
+use Rattle.std.specs.Prelude.{◌≡◌, ℕ, zero, suc, ◌+◌, ◌<◌, ◌≤◌, cond, ◌⊎◌, List, [], ◌∷◌, ◌++◌, Some, None, Option, nat_le}
 use Rattle.languages.specs.Cells.{long}
 
 -- (a, b) comes before (x, y): by the first entry, and then by the second
@@ -31,6 +31,16 @@ First Reach n P (Some pair) = FirstIs Reach n P pair.0 pair.1
 -- a cell that tells of a path
 abbrev pub Reaches : (ℕ → ℕ → ℕ) → ℕ → ℕ → Type 0
 Reaches d u v = d u v ≤ long
+
+-- the pairs of u and each entry below v whose cells tell of a path, in their order
+abbrev pub reached_in_row : (ℕ → ℕ → ℕ) → ℕ → ℕ → List (ℕ × ℕ)
+reached_in_row d u zero = []
+reached_in_row d u (suc v) = reached_in_row d u v ++ cond (nat_le (d u v) long) ((u, v) ∷ []) []
+
+-- those of the first rows, among n entries
+abbrev pub reached_pairs : (ℕ → ℕ → ℕ) → ℕ → ℕ → List (ℕ × ℕ)
+reached_pairs d n zero = []
+reached_pairs d n (suc u) = reached_pairs d n u ++ reached_in_row d u n
 
 -- 1 for such a cell, and 0 for any other
 abbrev pub reaches : ℕ → ℕ
