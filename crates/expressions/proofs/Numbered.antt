@@ -162,7 +162,7 @@ made_at es (x ∷ xs) (suc j) h f =
 pub part_made : (parts : List Part) (q : ℕ) → q < length parts → well_formed 0 parts ≡ true → part_expr parts q ≡ made (part_expr parts) q (get_or parts q Epsilon)
 part_made parts q h f = subst (λ k. expr_at (exprs_after [] parts) k ≡ made (expr_at (exprs_after [] parts)) k (get_or parts q Epsilon)) (omega arith) (made_at [] parts q h f)
 
-stands : (q k : ℕ) (parts : List Part) → well_formed q parts ≡ true → k < length parts → stands_on (q + k) (get_or parts k Epsilon) ≡ true
+pub stands : (q k : ℕ) (parts : List Part) → well_formed q parts ≡ true → k < length parts → stands_on (q + k) (get_or parts k Epsilon) ≡ true
 stands q k [] f h = absurd (omega arith)
 stands q zero (x ∷ xs) f h = subst (λ j. stands_on j x ≡ true) (omega arith) (and_parts (stands_on q x) (well_formed (q + 1) xs) f).0
 stands q (suc k) (x ∷ xs) f h = subst (λ j. stands_on j (get_or xs k Epsilon) ≡ true) (omega arith) (stands (q + 1) k xs (and_parts (stands_on q x) (well_formed (q + 1) xs) f).1 (omega arith))

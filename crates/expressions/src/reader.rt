@@ -51,7 +51,8 @@ impl Reader<'_> {
         Ok(())
     }
 
-    // Items side by side.
+    // Items side by side. This, `item` and `atom` are inlined, so that `expression` alone calls itself, in place of four functions that call each other.
+    #[inline(always)]
     #[cycle(reader)]
     fn run(&mut self) -> Result<(), SyntaxError>
         ensures text { self.new.text.now ≡ self.old.text.now }
@@ -67,6 +68,7 @@ impl Reader<'_> {
     }
 
     // An atom, and the signs behind it.
+    #[inline(always)]
     #[cycle(reader)]
     fn item(&mut self) -> Result<(), SyntaxError>
         ensures text { self.new.text.now ≡ self.old.text.now }
@@ -94,6 +96,7 @@ impl Reader<'_> {
     }
 
     // One letter, `0`, or what stands in brackets.
+    #[inline(always)]
     #[cycle(reader)]
     fn atom(&mut self) -> Result<(), SyntaxError>
         ensures text { self.new.text.now ≡ self.old.text.now }

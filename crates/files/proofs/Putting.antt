@@ -12,7 +12,7 @@ use Rattle.graphs.specs.Links.{sound}
 use Rattle.graphs.specs.declared.link.Link.{Link}
 use Rattle.files.specs.Encoding.{entry_kind, framed, entry_bytes}
 
-length-put_mid : (a k : ℕ) (xs ys : List ℕ) → a + k ≤ length xs → length ys ≡ k → length (put_mid a k xs ys) ≡ length xs
+pub length-put_mid : (a k : ℕ) (xs ys : List ℕ) → a + k ≤ length xs → length ys ≡ k → length (put_mid a k xs ys) ≡ length xs
 length-put_mid a k xs ys h e = grind (arith, common_steps)
 
 module _ {X : Type 0} (f : X → List ℕ) (xs : List X) where

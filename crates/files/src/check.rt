@@ -33,6 +33,8 @@ fn split_payload(rest: &[u8], size: usize, fits: bool, at: usize) -> Result<(&[u
 }
 
 // The record at the front of `left`, where `at` is its offset and `read` counts the records before it (`None`: it must be the head). Gives the counts with this record, and what lies behind it.
+// Inlined, since two places call it: a call hands its result over through memory.
+#[inline(always)]
 fn check_record<'a, K: Kind>(
     left: &'a [u8],
     at: usize,

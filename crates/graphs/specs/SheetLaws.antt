@@ -25,7 +25,7 @@ month_sound n i h None within l e = cc
 month_sound n i h (Some j) within l e = let below : j < n = within j refl in grind (arith, nat_tests)
 
 module _ (days : List SheetDay) where
-  entry_within : (day : SheetDay) (j : ℕ) → entry_of days day ≡ Some j → j < length days
+  pub entry_within : (day : SheetDay) (j : ℕ) → entry_of days day ≡ Some j → j < length days
   entry_within day j e = grind (arith, nat_tests)
 
   pub places_length : length (flat_map (places_of days) (range_with_len 0 (length days))) ≡ 3 * length days

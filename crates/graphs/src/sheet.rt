@@ -1,8 +1,8 @@
 // Sheets: some whole months of a Gregorian year.
-ghost use Rattle.std.specs.Prelude.{◌≡◌, ◌+◌, ◌-◌, ◌*◌, ◌<◌, ◌≤◌, not, [], ◌∷◌, length, SomeIff, IfSome};
+ghost use Rattle.std.specs.Prelude.{◌≡◌, true, ◌+◌, ◌-◌, ◌*◌, ◌<◌, ◌≤◌, not, [], ◌∷◌, length, SomeIff, IfSome};
 ghost use Rattle.refusals.specs.Rows.{ByRows};
 ghost use Rattle.refusals.specs.declared.Refusal.TheVariants.{SheetOutOfRange};
-ghost use Rattle.graphs.specs.Graphs.{value_at};
+ghost use Rattle.graphs.specs.Graphs.{link_at, value_at};
 ghost use Rattle.graphs.specs.SheetLaws.{sheet_lawful};
 ghost use Rattle.graphs.specs.Sheets.{sheet_in_range, days_of, days_in, sheet_days, entry_of, sheet_graph};
 
@@ -54,7 +54,8 @@ impl Sheet {
 
     // The sheet's months.
     fn months(&self) -> Range<u8>
-        ensures { result ≡ record { start = self.now.month; end = self.now.month + self.now.count } }
+        ensures is { result ≡ record { start = self.now.month; end = self.now.month + self.now.count } }
+        ensures range { sheet_in_range self.now.year self.now.month self.now.count ≡ true }
     {
         self.month..self.month + self.count
     }
@@ -80,6 +81,7 @@ impl Sheet {
     fn days(&self) -> usize
         ensures few { result ≤ 93 }
         ensures is { result ≡ length (days_in self.now) }
+        ensures range { sheet_in_range self.now.year self.now.month self.now.count ≡ true }
     {
         self.days_before(self.month + self.count)
     }
@@ -88,6 +90,7 @@ impl Sheet {
     fn day_at(&self, entry: usize) -> Option<(u8, u8)>
         ensures months { IfSome result (λ day. day.0 ≤ 12) }
         ensures is { result ≡ value_at (days_in self.now) entry }
+        ensures range { sheet_in_range self.now.year self.now.month self.now.count ≡ true }
     {
         // A loop, since what is left passes from month to month: a `find` would sum the days before each month anew.
         let mut left = entry;
@@ -119,20 +122,30 @@ impl Sheet {
     }
 }
 
+// Each answer tells too that the months are in range, as nobody who is lent a sheet sees its invariant.
 impl Source for Sheet {
     ghost graph = { λ s. sheet_graph (days_in s) };
 
     ghost lawful = { λ s. sheet_lawful (days_in s) };
 
-    fn entries(&self) -> usize {
+    fn entries(&self) -> usize
+        ensures is { result ≡ (sheet_graph (days_in self.now)).entries }
+        ensures range { sheet_in_range self.now.year self.now.month self.now.count ≡ true }
+    {
         self.days()
     }
 
-    fn places(&self) -> usize {
+    fn places(&self) -> usize
+        ensures is { result ≡ length (sheet_graph (days_in self.now)).places }
+        ensures range { sheet_in_range self.now.year self.now.month self.now.count ≡ true }
+    {
         3 * self.days()
     }
 
-    fn link_at(&self, place: usize) -> Option<Link> {
+    fn link_at(&self, place: usize) -> Option<Link>
+        ensures is { result ≡ link_at (sheet_graph (days_in self.now)) place }
+        ensures range { sheet_in_range self.now.year self.now.month self.now.count ≡ true }
+    {
         let from = place / 3;
         let (month, date) = self.day_at(from)?;
         let (letter, to) = match place % 3 {
@@ -143,7 +156,10 @@ impl Source for Sheet {
         to.map(|to| Link { from, letter, to })
     }
 
-    fn same(&self, u: usize, v: usize) -> bool {
+    fn same(&self, u: usize, v: usize) -> bool
+        ensures is { result ≡ (sheet_graph (days_in self.now)).same u v }
+        ensures range { sheet_in_range self.now.year self.now.month self.now.count ≡ true }
+    {
         match (self.day_at(u), self.day_at(v)) {
             (Some((_, first)), Some((_, second))) => first == second,
             _ => false,

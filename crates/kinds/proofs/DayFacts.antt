@@ -25,7 +25,7 @@ day_valid d =
     rw (year, calendar_back d.calendar) (grind (arith, nat_tests))
 
 -- a number of the range stands for itself
-within_same : (k n : ℕ) → 1 ≤ n → n ≤ k → within k n ≡ n
+pub within_same : (k n : ℕ) → 1 ≤ n → n ≤ k → within k n ≡ n
 within_same k n low high = grind (arith, common_steps)
 
 byte_back : (b : ℕ) (k : Calendar) → Some k ≡ result_ok (calendar_from b) → calendar_byte k ≡ b

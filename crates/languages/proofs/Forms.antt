@@ -71,7 +71,7 @@ module _ (g : Graph) (c : Counting) where
 
   -- joining
 
-  join_in : (L M : Language) (u v l : ℕ) → Some g.entries (λ m. Sums (C L u m) (C M m v)) l → C (Joint L M) u v l
+  pub join_in : (L M : Language) (u v l : ℕ) → Some g.entries (λ m. Sums (C L u m) (C M m v)) l → C (Joint L M) u v l
   join_in L M u v l w =
       let m = w.0 in
       let a = w.2.2 in

@@ -1,11 +1,11 @@
 -- The first pair of a block, from the place where its cell stands. Assumes nothing.
-use Rattle.std.proofs.Common.{◌≡◌, ℕ, ◌+◌, ◌-◌, ◌*◌, ◌/◌, ◌%◌, ◌<◌, ◌≤◌, false, leb, List, length, get_or, Some, None, ap, ◌∙◌, arith}
+use Rattle.std.proofs.Common.{◌≡◌, ℕ, ◌+◌, ◌-◌, ◌*◌, ◌/◌, ◌%◌, ◌<◌, ◌≤◌, false, leb, List, length, get_or, Some, None, ap, subst, ◌∙◌, arith}
 use Rattle.std.proofs.lemmas.Bool.{leb-true, leb-false}
 use Rattle.std.proofs.lemmas.Bool.Decides.{nat_tests}
 use Rattle.std.proofs.lemmas.List.Edits.{length-between, get_or-between}
 use Rattle.std.proofs.lemmas.List.Quantifiers.{position-Some}
 use Rattle.std.proofs.lemmas.List.Sums.{fails_before_first}
-use Rattle.std.proofs.lemmas.Nat.{row_fits, mul-add-lt, div-add-mod', mod_below, div_below}
+use Rattle.std.proofs.lemmas.Nat.{row_fits, mul-add-lt, div-add-mod', div-mul-add, mod-mul-add, mod_below, div_below}
 use Rattle.std.specs.List.{slice_range, position}
 use Rattle.languages.specs.Cells.{long}
 use Rattle.tables.specs.Blocks.{cell}
@@ -64,3 +64,12 @@ module _ (block rest : List ℕ) (n u v : ℕ) (size : length block ≡ n * n) (
             let l = before_place n a b (at / n) (at % n) k o in
             omega (arith, leb-false _ _ (p.2 (a * n + b - (u * n + v)) (omega arith)), rest_cell a b q (omega arith));
       }
+
+  -- the same pair, told by its place in the row of u where it stands there
+  pub first_in_row : (i : ℕ) → position (λ c. leb c long) rest ≡ Some i → u * n + v + i - u * n < n → FirstIs (From u v) n (Reaches (cell block 0 n)) u (u * n + v + i - u * n)
+  first_in_row i e h =
+      let y = u * n + v + i - u * n in
+      let at : u * n + v + i ≡ u * n + y = omega arith in
+      let row : (u * n + v + i) / n ≡ u = ap (λ k. k / n) at ∙ div-mul-add u n y h in
+      let col : (u * n + v + i) % n ≡ y = ap (λ k. k % n) at ∙ mod-mul-add u n y h in
+      subst (λ x. FirstIs (From u v) n (Reaches (cell block 0 n)) x y) row (subst (FirstIs (From u v) n (Reaches (cell block 0 n)) ((u * n + v + i) / n)) col (first_some i e))

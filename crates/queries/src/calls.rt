@@ -1,9 +1,10 @@
 // The calls of a query. Each is matched in place, together with the condition that the query is in.
-ghost use Rattle.std.specs.Prelude.{◌≡◌, ℕ, OnOk};
+ghost use Rattle.std.specs.Prelude.{◌≡◌, ℕ, ◌≤◌, OnOk};
 ghost use Rattle.queries.specs.Calls.{Parses, Evaluates, Looks, Nexts, Tallies, Traces};
-ghost use Rattle.queries.specs.Conditions.{expr_in};
+ghost use Rattle.queries.specs.Conditions.{entries_in, expr_in};
 ghost use Rattle.queries.specs.Meanings.{Meant};
 ghost use Rattle.queries.specs.declared.condition.Condition.TheVariants.{Blank};
+ghost use Rattle.tables.specs.Limits.{most_entries};
 
 use crate::Query;
 use crate::condition::{Condition, Evaluation};
@@ -28,7 +29,8 @@ impl Query {
 
     /// Reads a wording. What was evaluated is dropped.
     pub fn parse(&mut self, text: &[u8]) -> Result<(), Refusal>
-        ensures { Parses self.old text.now self.new result }
+        ensures parsed { Parses self.old text.now self.new result }
+        ensures few { (entries_in self.old ≤ most_entries) × (entries_in self.new ≤ most_entries) }
     {
         match (&mut self.condition, parse(text)) {
             (condition, Ok(parts)) => {
@@ -43,6 +45,7 @@ impl Query {
     pub fn evaluate<S: Source>(&mut self, source: &S, table: &mut [u32]) -> Result<(), Refusal>
         ensures evaluated { Evaluates self.old (S.Source.graph source.now) table.old self.new table.new result }
         ensures meant { OnOk result (Meant (S.Source.graph source.now) (expr_in self.new) self.new table.new) }
+        ensures few { (entries_in self.old ≤ most_entries) × (entries_in self.new ≤ most_entries) }
     {
         match (&mut self.condition, source) {
             (Condition::Blank, _) => Err(Refusal::QueryBlank),
@@ -60,7 +63,8 @@ impl Query {
 
     /// What joins a pair of entries.
     pub fn lookup(&self, table: &[u32], u: usize, v: usize) -> Result<Found, Refusal>
-        ensures { Looks self.now table.now u v result }
+        ensures looked { Looks self.now table.now u v result }
+        ensures few { entries_in self.now ≤ most_entries }
     {
         match (&self.condition, u, v) {
             (Condition::Evaluated(evaluation), u, v) => {
@@ -79,7 +83,8 @@ impl Query {
         table: &[u32],
         after: Option<(usize, usize)>,
     ) -> Result<Option<(usize, usize)>, Refusal>
-        ensures { Nexts self.now table.now after result }
+        ensures answered { Nexts self.now table.now after result }
+        ensures few { entries_in self.now ≤ most_entries }
     {
         match (&self.condition, after) {
             (Condition::Evaluated(evaluation), Some((u, v))) => {
@@ -99,7 +104,8 @@ impl Query {
 
     /// How many pairs are joined.
     pub fn tally(&self, table: &[u32]) -> Result<usize, Refusal>
-        ensures { Tallies self.now table.now result }
+        ensures tallied { Tallies self.now table.now result }
+        ensures few { entries_in self.now ≤ most_entries }
     {
         match (&self.condition, table) {
             (Condition::Evaluated(evaluation), table) => {
@@ -118,7 +124,8 @@ impl Query {
         v: usize,
         steps: &mut [Step],
     ) -> Result<usize, Refusal>
-        ensures { Traces self.now table.now u v steps.old steps.new result }
+        ensures traced { Traces self.now table.now u v steps.old steps.new result }
+        ensures few { entries_in self.now ≤ most_entries }
     {
         match (&self.condition, u, v) {
             (Condition::Evaluated(evaluation), u, v) => {

@@ -22,6 +22,11 @@ pub(crate) fn first_from(block: &[u32], n: usize, u: usize, v: usize) -> Option<
     // The cells stand in the order of their pairs.
     let start = u * n + v;
     let at = start + first_reached(&block[start..])?;
+    // Most often it is in the row of u: then no division is needed.
+    let column = at - u * n;
+    if column < n {
+        return Some((u, column));
+    }
     Some((at / n, at % n))
 }
 
@@ -29,5 +34,6 @@ pub(crate) fn first_from(block: &[u32], n: usize, u: usize, v: usize) -> Option<
 pub(crate) fn tally(block: &[u32]) -> usize
     ensures { result ≡ count_by (λ c. nat_le c LONG) block.now }
 {
-    block.iter().filter(|cell| **cell <= LONG).count()
+    // A sum of ones: the compiler adds several cells at a time, which it does not with `filter` and `count`.
+    block.iter().map(|cell| usize::from(*cell <= LONG)).sum()
 }

@@ -12,7 +12,7 @@ returns-then-input-gt-MOST_INPUT c = too_long c.if-input-gt-MOST_INPUT.true
 pub returns-in_err-parse : goal.returns-in_err-parse
 returns-in_err-parse c =
     let p = err_from_is_err_and c.from_residual.result c.from_residual.ensures.1 in
-    rw (p.1, p.2) (by_wording (omega arith) (subst (λ t. Refused t c.in_err-parse.field-0.0) c.split.ensures.wording (parse_told _ _ _ _ c.in_err-parse.ensures).0))
+    rw (p.1, p.2) (by_wording (omega arith) (subst (λ t. Refused t c.in_err-parse.field-0.0) c.split.ensures.wording (parse_told _ _ _ _ c.in_err-parse.ensures.parsed).0))
 
 pub returns : goal.returns
-returns c = asked_all _ _ _ _ _ _ _ _ _ c.requires c.split.ensures.wording c.split.ensures.book_file (omega arith) c.in_ok-parse.ensures c.work.ensures
+returns c = asked_all _ _ _ _ _ _ _ _ _ c.requires c.split.ensures.wording c.split.ensures.book_file (omega arith) c.in_ok-parse.ensures.parsed c.work.ensures

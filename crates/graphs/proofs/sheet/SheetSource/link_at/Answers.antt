@@ -8,11 +8,11 @@ use Rattle.graphs.specs.SheetLaws.{place_past, place_within}
 use Rattle.graphs.proofs.sheet.SheetSource.link_at.Goals as goal
 use Rattle.graphs.proofs.sheet.SheetSource.link_at.Goals.{in-0, in-1, in_default}
 
-pub returns-in_err-month : goal.returns-in_err-month
-returns-in_err-month c = grind (arith, place_past)
+pub returns-in_err-month-clause-is : goal.returns-in_err-month-clause-is
+returns-in_err-month-clause-is c = grind (arith, place_past)
 
-pub returns : goal.returns
-returns c =
+pub returns-clause-is : goal.returns-clause-is
+returns-clause-is c =
     let days = days_in c.args.self.now in
     let from = c.args.place / 3 in
     let day : ℕ × ℕ = (c.in_ok-month.month, c.in_ok-month.date) in
