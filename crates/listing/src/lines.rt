@@ -84,8 +84,6 @@ pub fn long_line(u: usize, v: usize, out: &mut [u8]) -> Result<usize, Refusal>
 }
 
 // Puts the pieces of a line behind each other at the front of a buffer. `write!` would not do: no contract says when a writer fails, and a refusal has to leave the buffer as it was.
-// It is inlined with what it calls, since a caller knows how many pieces there are.
-#[inline(always)]
 fn put_line(pieces: &[&str], out: &mut [u8]) -> Result<usize, Refusal>
     requires { length (flat_map (λ piece. piece.now) pieces.now) ≤ usize.MAX }
     ensures { Lined (flat_map (λ piece. piece.now) pieces.now) out.old out.new result }
@@ -118,7 +116,6 @@ fn put_path(pieces: &[&str], path: &[Step], out: &mut [u8]) -> Result<usize, Ref
 }
 
 // How many bytes pieces have.
-#[inline(always)]
 fn pieces_size(pieces: &[&str]) -> usize
     requires { length (flat_map (λ piece. piece.now) pieces.now) ≤ usize.MAX }
     ensures { result ≡ length (flat_map (λ piece. piece.now) pieces.now) }
@@ -149,7 +146,6 @@ fn put_step(step: Step, at: usize, out: &mut [u8]) -> usize
 }
 
 // Puts pieces behind each other at the front of a buffer in which they fit, and tells where they end.
-#[inline(always)]
 #[tactic(auto, using(crate::proofs::Putting::putting))]
 fn put_pieces(pieces: &[&str], out: &mut [u8]) -> usize
     requires { length (flat_map (λ piece. piece.now) pieces.now) ≤ length out.old }
@@ -163,7 +159,6 @@ fn put_pieces(pieces: &[&str], out: &mut [u8]) -> usize
 }
 
 // Puts a piece at a place of a buffer in which it fits, and tells where it ends. By place: after a loop that splits the buffer, a proof knows no more than its length.
-#[inline(always)]
 fn put(piece: &[u8], at: usize, out: &mut [u8]) -> usize
     requires { at + length piece.now ≤ length out.old }
     ensures { PutAt piece.now at result out.old out.new }

@@ -78,6 +78,8 @@ impl Query {
     }
 
     /// The first joined pair, after a given one if any; `None` behind the last.
+    // Inlined, as a call hands its result over through memory, which takes longer than to find the pair.
+    #[inline(always)]
     pub fn next(
         &self,
         table: &[u32],
